@@ -1,4 +1,6 @@
-// write files                    makes a memory file "base" of 128 MiB, and diffs "d1" to "d5" to merge into it in turn
+// write files                    makes memory files "base" and "second" of 128 MiB; diffs "d1" to "d5" of version 1 to merge into the first in
+//                                turn, and the same of version 2, "e1" to "e5", to merge into the second; and "z1" to "z5", diffs of
+//                                version 1 as long as "d1" to "d5" whose pages are zeros
 // write new|over NAME PAGES SYNCS  writes so many pages to a new file, by the mebibyte, or over every other page of one, page by
 //                                page, with so many syncs, each behind a byte of its own; prints the nanoseconds
 #include <fcntl.h>
@@ -21,10 +23,10 @@ static void number(char *at, uint64_t value, int bytes) {
 }
 
 // gate, magic, version and the number of pages, and identities of lineage 5
-static void head(char *at, const char *kind) {
+static void head(char *at, const char *kind, int version) {
     at[0] = 1;
     memcpy(at + 1, kind, 7);
-    number(at + 8, 1, 4);
+    number(at + 8, version, 4);
     number(at + 12, PAGES, 4);
 }
 
@@ -34,32 +36,55 @@ static int made(const char *name) {
     return file;
 }
 
-static void files(void) {
+static void memory(const char *name) {
     char start[PAGE] = {0};
-    head(start, "RVFCMEM");
+    head(start, "RVFCMEM", 1);
     number(start + 16, 5, 8);
     number(start + 24, 1, 8);
-    int base = made("base");
+    int base = made(name);
     put(base, start, PAGE, 0);
     for (int i = 0; i < PAGES / 256; i++) put(base, block, BLOCK, PAGE + (off_t)BLOCK * i);
     if (fsync(base) != 0 || close(base) != 0) exit(1);
+}
+
+// every other page, each of these bytes
+static void diff(const char *name, int version, int k, int count, const char *page) {
+    off_t entry = version == 1 ? 4 : 12, start = 64 + entry * count;
+    char *table = malloc(start);
+    if (table == NULL) exit(1);
+    memset(table, 0, start);
+    head(table, "RVFCDIF", version);
+    number(table + 16, 5, 8);
+    number(table + 24, k, 8);
+    number(table + 32, 5, 8);
+    number(table + 40, k + 1, 8);
+    number(table + 48, count, 4);
+    if (version == 2) number(table + 52, count, 4);
+    for (int i = 0; i < count; i++) {
+        number(table + 64 + entry * i, 2 * i, 4);
+        if (version == 2) {
+            number(table + 64 + entry * i + 4, 1, 4);
+            number(table + 64 + entry * i + 8, 1, 4);
+        }
+    }
+    int file = made(name);
+    put(file, table, start, 0);
+    for (int i = 0; i < count; i++) put(file, page, PAGE, start + (off_t)PAGE * i);
+    if (fsync(file) != 0 || close(file) != 0) exit(1);
+    free(table);
+}
+
+static void files(void) {
+    static char zeros[PAGE];
+    memory("base");
+    memory("second");
     for (int k = 1, count = 1024; k <= 5; k++, count *= 2) {
         char name[] = {'d', (char)('0' + k), 0};
-        char *table = malloc(64 + 4 * (size_t)count);
-        if (table == NULL) exit(1);
-        memset(table, 0, 64);
-        head(table, "RVFCDIF");
-        number(table + 16, 5, 8);
-        number(table + 24, k, 8);
-        number(table + 32, 5, 8);
-        number(table + 40, k + 1, 8);
-        number(table + 48, count, 4);
-        for (int i = 0; i < count; i++) number(table + 64 + 4 * i, 2 * i, 4);
-        int diff = made(name);
-        put(diff, table, 64 + 4 * (size_t)count, 0);
-        for (int i = 0; i < count; i++) put(diff, block, PAGE, 64 + 4 * (off_t)count + (off_t)PAGE * i);
-        if (fsync(diff) != 0 || close(diff) != 0) exit(1);
-        free(table);
+        diff(name, 1, k, count, block);
+        name[0] = 'e';
+        diff(name, 2, k, count, block);
+        name[0] = 'z';
+        diff(name, 1, k, count, zeros);
     }
 }
 

@@ -49,7 +49,7 @@ later_by p config (call.PutInterface interface) has placed = never p has placed
 later_by p config (call.PatchInterface patch) has placed = tt
 later_by p config (call.PutMachineConfig machine) has placed = never p has placed
 later_by p config (call.PatchMachineConfig patch) has placed = never p has placed
-<<<<<<< 717b8584
+<<<<<<< f4895c43
 later_by p config (call.PutVsock vsock) has placed = never p has placed
 later_by p config (call.PutBalloon balloon) has placed = never p has placed
 later_by p config (call.PatchBalloon patch) has placed = tt
@@ -90,7 +90,7 @@ own_alike p config a b (call.PutInterface interface) none number = refl
 own_alike p config a b (call.PatchInterface patch) none number = refl
 own_alike p config a b (call.PutMachineConfig machine) none number = refl
 own_alike p config a b (call.PatchMachineConfig patch) none number = refl
-<<<<<<< 717b8584
+<<<<<<< f4895c43
 own_alike p config a b (call.PutVsock vsock) none number = refl
 own_alike p config a b (call.PutBalloon balloon) none number = refl
 own_alike p config a b (call.PatchBalloon patch) none number = refl
@@ -155,7 +155,7 @@ module _ (twins : List Twins) (m n : Machine) (alike : Alike twins m n) where
   contents_alike (change.PutInterface interface) later = absurd later
   contents_alike (change.PatchInterface patch) later = refl
   contents_alike (change.MachineConfig machine) later = absurd later
-<<<<<<< 717b8584
+<<<<<<< f4895c43
   contents_alike (change.PutVsock vsock) later = absurd later
 =======
 >>>>>>> m
@@ -166,7 +166,7 @@ module _ (twins : List Twins) (m n : Machine) (alike : Alike twins m n) where
   contents_alike (change.State state) later = refl
   contents_alike (change.CreateSnapshot it) later = refl
   contents_alike (change.LoadSnapshot load) later = absurd later
-<<<<<<< 717b8584
+<<<<<<< f4895c43
   contents_alike (change.MmdsConfig mmds) later = absurd later
 =======
 >>>>>>> m

@@ -135,7 +135,7 @@ leaves_kept (change.PatchInterface patch) m n is own =
     ∙ relimited_there receives_told patch.rx_rate_limiter number m.guest)
     (ap (λ (q : Machine). q.config.configured) is) own
 leaves_kept (change.MachineConfig machine) m n is own = λ there. ap (λ (q : Machine). q.config.configured) is
-<<<<<<< 717b8584
+<<<<<<< f4895c43
 leaves_kept (change.PutVsock vsock) m n is own = λ there. ap (λ (q : Machine). q.config.configured) is
 =======
 >>>>>>> m
@@ -157,7 +157,7 @@ leaves_kept (change.State Resumed) m n is own =
     kept m n (ap (λ (q : Machine). is_some q.guest) is) (ap (λ (q : Machine). q.config.configured) is) own
 leaves_kept (change.CreateSnapshot it) m n (devices, x) own = create_kept m.guest m it devices n refl x own
 leaves_kept (change.LoadSnapshot load) m n x own = load_kept (found m.saved load.files) m load n x own
-<<<<<<< 717b8584
+<<<<<<< f4895c43
 leaves_kept (change.MmdsConfig mmds) m n is own = λ there. ap (λ (q : Machine). q.config.configured) is
 =======
 >>>>>>> m
@@ -176,7 +176,7 @@ failed_kept (change.PatchDrive patch) m left n x own = same m n x.3 own
 failed_kept (change.PutInterface interface) m left n x own = absurd x
 failed_kept (change.PatchInterface patch) m left n x own = absurd x
 failed_kept (change.MachineConfig machine) m left n x own = absurd x
-<<<<<<< 717b8584
+<<<<<<< f4895c43
 failed_kept (change.PutVsock vsock) m left n x own = absurd x
 =======
 >>>>>>> m
@@ -187,7 +187,7 @@ failed_kept change.Start m left n x own = same m n x.1 own
 failed_kept (change.State state) m left n x own = absurd x
 failed_kept (change.CreateSnapshot it) m left n x own = fails_kept m.guest m it left n x own
 failed_kept (change.LoadSnapshot load) m left n x own = same m n x.1 own
-<<<<<<< 717b8584
+<<<<<<< f4895c43
 failed_kept (change.MmdsConfig mmds) m left n x own = absurd x
 =======
 >>>>>>> m

@@ -222,7 +222,7 @@ module _ (twins : List Twins) (m n : Machine) (alike : Alike twins m n) where
       led twins k l (λ (q : Machine). LeavesBy n (Ok (change.PatchInterface patch)) kept q) (none, refl)
       (moved twins k (configured (patched_interface m patch) (change.PatchInterface patch)) l is (limits_alike patch))
   leaves_alike (change.MachineConfig machine) kept k later x = absurd later
-<<<<<<< 717b8584
+<<<<<<< f4895c43
   leaves_alike (change.PutVsock vsock) kept k later x = absurd later
 =======
 >>>>>>> m
@@ -235,7 +235,7 @@ module _ (twins : List Twins) (m n : Machine) (alike : Alike twins m n) where
       let l : Machine = configured (patched_statistics n patch) (change.PatchStatistics patch) in
       led twins k l (λ (q : Machine). LeavesBy n (Ok (change.PatchStatistics patch)) kept q) (none, refl)
       (moved twins k (configured (patched_statistics m patch) (change.PatchStatistics patch)) l is (interval_alike patch))
-<<<<<<< 717b8584
+<<<<<<< f4895c43
   leaves_alike (change.MmdsConfig mmds) kept k later x = absurd later
 =======
 >>>>>>> m
@@ -278,7 +278,7 @@ module _ (twins : List Twins) (m n : Machine) (alike : Alike twins m n) where
   failed_alike (change.PutInterface interface) left k x = absurd x
   failed_alike (change.PatchInterface patch) left k x = absurd x
   failed_alike (change.MachineConfig machine) left k x = absurd x
-<<<<<<< 717b8584
+<<<<<<< f4895c43
   failed_alike (change.PutVsock vsock) left k x = absurd x
 =======
 >>>>>>> m
@@ -289,7 +289,7 @@ module _ (twins : List Twins) (m n : Machine) (alike : Alike twins m n) where
   failed_alike (change.State state) left k x = absurd x
   failed_alike (change.CreateSnapshot it) left k x = fails_alike twins m n alike it left k m.guest n.guest alike.first alike.second x
   failed_alike (change.LoadSnapshot load) left k (none, same) = (n, (none, refl), moved twins k m n same alike)
-<<<<<<< 717b8584
+<<<<<<< f4895c43
   failed_alike (change.MmdsConfig mmds) left k x = absurd x
 =======
 >>>>>>> m

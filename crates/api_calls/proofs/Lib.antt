@@ -4,7 +4,7 @@ pub mod Ranges
 pub mod Limits
 pub mod Drives
 pub mod Interfaces
-<<<<<<< 717b8584
+<<<<<<< f4895c43
 pub mod Metadata
 =======
 >>>>>>> m

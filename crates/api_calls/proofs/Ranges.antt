@@ -8,7 +8,7 @@ use Rattle.serde_json.specs.Data.{Data, null, boolean, number, string, array, ob
 use Rattle.serde_json.specs.Find.{as_str, as_u64, get}
 use Rattle.api_calls.specs.declared.test.Test.TheVariants as test
 use Rattle.api_calls.specs.Form.{as_whole, holds, is_in_range, is_of_kind, is_path, number_at, object_passes, refusal, row_passes, text, text_at, unless_null, whole}
-<<<<<<< 717b8584
+<<<<<<< f4895c43
 use Rattle.api_calls.specs.Fields.{balloon, boot_source, machine_config, machine_patch, statistics_patch, vsock}
 =======
 use Rattle.api_calls.specs.Fields.{balloon, boot_source, machine_config, machine_patch, statistics_patch}
@@ -140,7 +140,7 @@ machine_patch_is ms none =
           (and_parts _ _ (and_parts _ _ range).1).0,
     )
 
-<<<<<<< 717b8584
+<<<<<<< f4895c43
 abbrev pub IsVsock : Data → Type 0
 IsVsock d =
     IsWithin 3 4294967294 (unwrap_or (number_at (codes "guest_cid") d) 0)

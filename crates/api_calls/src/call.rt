@@ -4,7 +4,7 @@ ghost use Rattle.std.specs.Prelude.{◌≡◌};
 use crate::balloon::{Balloon, BalloonPatch, StatisticsPatch};
 use crate::interface::{Interface, InterfacePatch};
 use crate::limiter::Limiter;
-<<<<<<< 717b8584
+<<<<<<< f4895c43
 use crate::mmds::MmdsConfig;
 use crate::vsock::Vsock;
 =======
@@ -164,7 +164,7 @@ pub enum ApiCall {
     PutInterface(Interface),
     /// PATCH /network-interfaces/{id}
     PatchInterface(InterfacePatch),
-<<<<<<< 717b8584
+<<<<<<< f4895c43
     /// PUT /vsock
     PutVsock(Vsock),
 =======
@@ -179,7 +179,7 @@ pub enum ApiCall {
     PatchBalloon(BalloonPatch),
     /// PATCH /balloon/statistics
     PatchStatistics(StatisticsPatch),
-<<<<<<< 717b8584
+<<<<<<< f4895c43
     /// PUT /mmds/config
     PutMmdsConfig(MmdsConfig),
 =======

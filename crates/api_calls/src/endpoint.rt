@@ -9,7 +9,7 @@ pub enum Body {
     DrivePatch,
     Interface,
     InterfacePatch,
-<<<<<<< 717b8584
+<<<<<<< f4895c43
     Vsock,
 =======
 >>>>>>> m
@@ -18,7 +18,7 @@ pub enum Body {
     Balloon,
     BalloonPatch,
     StatisticsPatch,
-<<<<<<< 717b8584
+<<<<<<< f4895c43
     MmdsConfig,
 =======
 >>>>>>> m

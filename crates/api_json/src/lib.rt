@@ -27,7 +27,7 @@ mod drives;
 // PUT and PATCH /network-interfaces/{id},
 mod interfaces;
 
-<<<<<<< 717b8584
+<<<<<<< f4895c43
 // PUT /vsock,
 mod vsock;
 
@@ -39,7 +39,7 @@ mod machine_config;
 // PUT and PATCH /balloon, PATCH /balloon/statistics,
 mod balloon;
 
-<<<<<<< 717b8584
+<<<<<<< f4895c43
 // PUT /mmds/config,
 mod mmds;
 

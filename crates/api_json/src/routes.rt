@@ -34,7 +34,7 @@ pub struct Target<'p> {
     pub id: &'p [u8],
 }
 
-<<<<<<< 717b8584
+<<<<<<< f4895c43
 static ROUTES: [Route; 24] = [
 =======
 static ROUTES: [Route; 23] = [
@@ -65,7 +65,7 @@ static ROUTES: [Route; 23] = [
         endpoint: Endpoint::Send(Body::InterfacePatch),
     },
     Route {
-<<<<<<< 717b8584
+<<<<<<< f4895c43
         pattern: Pattern::Fixed("/vsock"),
         method: "PUT",
         endpoint: Endpoint::Send(Body::Vsock),
@@ -98,7 +98,7 @@ static ROUTES: [Route; 23] = [
         endpoint: Endpoint::Send(Body::StatisticsPatch),
     },
     Route {
-<<<<<<< 717b8584
+<<<<<<< f4895c43
         pattern: Pattern::Fixed("/mmds/config"),
         method: "PUT",
         endpoint: Endpoint::Send(Body::MmdsConfig),

@@ -4,7 +4,7 @@ ghost use Rattle.api_rules.specs.Table as table;
 
 use vm_config::Config;
 
-<<<<<<< 717b8584
+<<<<<<< f4895c43
 const MOST_DEVICES: u128 = 16;
 =======
 const MOST_DEVICES: usize = 16;

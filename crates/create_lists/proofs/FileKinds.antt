@@ -2,15 +2,13 @@
 use Rattle.std.proofs.Common.{◌≡◌, ◌≢◌, ◌<◌, ℕ, List, ◌∷◌, ◌++◌, get_or, Some, inl, inr, refl, sym, ◌∙◌, ap, arith}
 use Rattle.std.proofs.lemmas.List.{get_or_past}
 use Rattle.file_format.specs.Kinds.{fixed}
-use Rattle.file_format.specs.Versions.Version.{One}
 use Rattle.gate_file.specs.Moments.{IsShut}
 use Rattle.snap_memory.specs.declared.header.MemHeader.{MemHeader}
 use Rattle.snap_memory.specs.Headers as memory
-use Rattle.snap_diff.specs.declared.header.DiffHeader.{DiffHeader}
 use Rattle.snap_diff.specs.Copies.{DiffCopy, MemoryCopy}
-use Rattle.snap_diff.specs.Diffs.{IsDiffFile, table_bytes}
-use Rattle.snap_diff.specs.Headers as diffs
-use Rattle.snap_diff.proofs.Files.{bytes_of}
+use Rattle.snap_diff.specs.Diffs.{IsDiffFile}
+use Rattle.snap_diff.proofs.Files.{begins}
+use Rattle.snap_diff.proofs.Fronts.{starts}
 use Rattle.snap_state.specs.declared.file.Saved.{Saved}
 use Rattle.snap_state.specs.Files as state
 use Rattle.snapshot_merge.specs.Memories.{Holds}
@@ -24,10 +22,6 @@ memory_opens : (h : MemHeader) → (rest : List ℕ) × (memory.header.bytes h �
 unfolding memory.header fixed
 memory_opens h = (_, refl)
 
-diff_opens : (h : DiffHeader) → (rest : List ℕ) × (diffs.header.bytes h ≡ 1 ∷ diffs.magic One ++ rest)
-unfolding diffs.header fixed
-diff_opens h = (_, refl)
-
 pub memory_kind : (text : List ℕ) (h : MemHeader) (m : MemoryCopy) → Holds text h m → IsKind 77 text
 memory_kind text h m holds =
     let is : text ≡ (1 ∷ memory.magic ++ (memory_opens h).0) ++ m.bytes = holds.bytes ∙ ap (λ (l : List ℕ). l ++ m.bytes) (memory_opens h).1 in
@@ -35,10 +29,8 @@ memory_kind text h m holds =
 
 pub diff_kind : (text : List ℕ) (d : DiffCopy) → IsDiffFile text d → IsKind 68 text
 diff_kind text d is_d =
-    let h : DiffHeader = diffs.header_of d in
-    let is : text ≡ (1 ∷ diffs.magic One ++ (diff_opens h).0) ++ (table_bytes d.numbers ++ d.bytes) =
-    is_d.bytes ∙ bytes_of d ∙ ap (λ (l : List ℕ). l ++ (table_bytes d.numbers ++ d.bytes)) (diff_opens h).1 in
-    record { gate = ap (λ (l : List ℕ). get_or l 0 0) is; mark = ap (λ (l : List ℕ). get_or l 5 0) is }
+    let f = starts text is_d.parts_of.header (begins text d is_d) in
+    record { gate = ap (λ (l : List ℕ). get_or l 0 0) f.1; mark = ap (λ (l : List ℕ). get_or l 5 0) f.1 }
 
 pub state_kind : (text : List ℕ) (s : Saved) → state.Encodes text s → IsKind 83 text
 state_kind text s e = record { gate = ap (λ (l : List ℕ). get_or l 0 0) e.bytes; mark = ap (λ (l : List ℕ). get_or l 5 0) e.bytes }

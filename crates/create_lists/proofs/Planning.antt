@@ -15,7 +15,7 @@ use Rattle.snap_memory.specs.Slots.{is_open}
 use Rattle.snap_diff.specs.Copies.{DiffCopy, IsDiffOf, Joins, MemoryCopy, overlaid}
 use Rattle.snap_diff.specs.Diffs.{IsDiffFile}
 use Rattle.snap_diff.specs.Found.{diff_found}
-use Rattle.snap_diff.specs.Headers.{header_of}
+use Rattle.snap_diff.specs.Headers.{names_of}
 use Rattle.snap_diff.proofs.Files.{found_good}
 use Rattle.snap_diff.proofs.Overlays.{diff_joins, makes_new}
 use Rattle.snapshot_merge.specs.declared.merge.Merge.{Merge}
@@ -121,10 +121,10 @@ pub record PlanIs (text file : List ℕ) (plan : Plan) : Type 0 where
   pub h : MemHeader
   pub base : base_found (Some text) ≡ Ok h
   pub diff : diff_found (Some file) ≡ Ok plan.diff
-  pub merge : merge_of h (header_of plan.diff) ≡ Ok plan.merge
+  pub merge : merge_of h (names_of plan.diff) ≡ Ok plan.merge
 
 plan_with_is : (text file : List ℕ) (h : MemHeader) (d : DiffCopy) (plan : Plan) (r : Result Merge Refusal) → base_found (Some text) ≡ Ok h → diff_found (Some file) ≡ Ok d
-    → merge_of h (header_of d) ≡ r → plan_with d r ≡ Ok plan → PlanIs text file plan
+    → merge_of h (names_of d) ≡ r → plan_with d r ≡ Ok plan → PlanIs text file plan
 plan_with_is text file h d plan (Err why) base diff merge is = absurd cc
 plan_with_is text file h d plan (Ok m) base diff merge is =
     let same : record { diff = d; merge = m } ≡ plan = cc in
@@ -134,7 +134,7 @@ plan_by_is : (text file : List ℕ) (plan : Plan) (r : Result MemHeader Refusal)
     → plan_by r q ≡ Ok plan → PlanIs text file plan
 plan_by_is text file plan (Err why) q base diff is = absurd cc
 plan_by_is text file plan (Ok h) (Err why) base diff is = absurd cc
-plan_by_is text file plan (Ok h) (Ok d) base diff is = plan_with_is text file h d plan (merge_of h (header_of d)) base diff refl is
+plan_by_is text file plan (Ok h) (Ok d) base diff is = plan_with_is text file h d plan (merge_of h (names_of d)) base diff refl is
 
 pub plan_is : (text file : List ℕ) (plan : Plan) → planned (Some text) (Some file) ≡ Ok plan → PlanIs text file plan
 plan_is text file plan is = plan_by_is text file plan (base_found (Some text)) (diff_found (Some file)) refl refl is
@@ -199,9 +199,9 @@ module _ (creates : List Create) (are : AreCreates creates) (text file : List �
   same_e : (x : Create) → IsAmong x creates → x.identity ≡ plan.diff.identity → x ≡ e
   same_e x of name = are.one x e of e_is.1.1.0 (name ∙ ap (λ (d : DiffCopy). d.identity) e_is.1.1.2)
 
-  merges : (b : Bool) → (p.h.merging == 0) ≡ b → cond b (new_merge p.h (header_of plan.diff)) (unfinished_merge p.h (header_of plan.diff) (slice_get p.h.slots (open_slots p.h.slots))) ≡ Ok plan.merge
+  merges : (b : Bool) → (p.h.merging == 0) ≡ b → cond b (new_merge p.h (names_of plan.diff)) (unfinished_merge p.h (names_of plan.diff) (slice_get p.h.slots (open_slots p.h.slots))) ≡ Ok plan.merge
   merges b is =
-      subst (λ (t : Bool). cond t (new_merge p.h (header_of plan.diff)) (unfinished_merge p.h (header_of plan.diff) (slice_get p.h.slots (open_slots p.h.slots))) ≡ Ok plan.merge) is
+      subst (λ (t : Bool). cond t (new_merge p.h (names_of plan.diff)) (unfinished_merge p.h (names_of plan.diff) (slice_get p.h.slots (open_slots p.h.slots))) ≡ Ok plan.merge) is
       (passes _ refusal.SizesDiffer _ plan.merge p.merge).1
 
   from_new : (p.h.merging == 0) ≡ true → AtText text
@@ -214,7 +214,7 @@ module _ (creates : List Create) (are : AreCreates creates) (text file : List �
       from_base creates are c e parent c_is.1.0 e_is.1.1.0 e_is.1.1.1 c_is.1.1 c_is.1.2 file of_file is_diff text of_text p.h held
       (x.1.1 ∙ ap memory_of is_c) zero (strict (open_slots p.h.slots) (length p.h.slots) (slots_fit p.h held.fits).0 (most p.h.slots) (eqb-false (open_slots p.h.slots) 100 two.0))
 
-  from_whole : (p.h.merging == 0) ≡ false → IsWholeOf creates (copy_in p.h text) → IsFree (slice_get p.h.slots (open_slots p.h.slots)) → done_merge p.h (header_of plan.diff) ≡ Ok plan.merge → AtText text
+  from_whole : (p.h.merging == 0) ≡ false → IsWholeOf creates (copy_in p.h text) → IsFree (slice_get p.h.slots (open_slots p.h.slots)) → done_merge p.h (names_of plan.diff) ≡ Ok plan.merge → AtText text
   from_whole unsettled x free merge =
       let one = holds (is_same (memory.identity_of p.h) plan.diff.identity) refusal.MergeUnfinished (Ok Finish) plan.merge merge in
       let is_e : x.0 ≡ e = same_e x.0 x.1.0 (ap (λ (m : MemoryCopy). m.identity) (sym x.1.1) ∙ same_when (memory.identity_of p.h) plan.diff.identity one.0) in
@@ -223,7 +223,7 @@ module _ (creates : List Create) (are : AreCreates creates) (text file : List �
 
   from_slot : (slot : Slot) (b : Bool) → slice_get p.h.slots (open_slots p.h.slots) ≡ Some slot → (slot.identity.number == 0) ≡ b → (p.h.merging == 0) ≡ false
       → MatchBool b (IsWholeOf creates (copy_in p.h text)) (IsPartOf creates slot (copy_in p.h text))
-      → cond b (done_merge p.h (header_of plan.diff)) (begun_merge p.h (header_of plan.diff) slot) ≡ Ok plan.merge → AtText text
+      → cond b (done_merge p.h (names_of plan.diff)) (begun_merge p.h (names_of plan.diff) slot) ≡ Ok plan.merge → AtText text
   from_slot slot true there number unsettled whole merge =
       from_whole unsettled whole (subst (λ (o : Option Slot). IsFree o) (sym there) number) merge
   from_slot slot false there number unsettled part merge =
@@ -234,7 +234,7 @@ module _ (creates : List Create) (are : AreCreates creates) (text file : List �
       from_part creates are c e parent c_is.1.0 e_is.1.1.0 e_is.1.1.1 c_is.1.1 c_is.1.2 file of_file is_diff text of_text p.h held slot part is_c is_e there unsettled
 
   from_next : (o : Option Slot) → slice_get p.h.slots (open_slots p.h.slots) ≡ o → (p.h.merging == 0) ≡ false → IsMergeInto creates o (copy_in p.h text)
-      → unfinished_merge p.h (header_of plan.diff) o ≡ Ok plan.merge → AtText text
+      → unfinished_merge p.h (names_of plan.diff) o ≡ Ok plan.merge → AtText text
   from_next None there unsettled whole merge = from_whole unsettled whole (subst (λ (o : Option Slot). IsFree o) (sym there) tt) merge
   from_next (Some slot) there unsettled by merge = from_slot slot (slot.identity.number == 0) there refl unsettled by merge
 

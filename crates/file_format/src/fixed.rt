@@ -43,7 +43,8 @@ pub fn write_zeros(count: usize, out: &mut Vec<u8>) -> Result<(), AllocError>
     Ok(())
 }
 
-fn are_zeros(bytes: &[u8]) -> bool
+/// Whether all of these bytes are zeros.
+pub fn are_zeros(bytes: &[u8]) -> bool
     ensures { result ≡ are_zeros bytes.now }
 {
     bytes.iter().all(|b| *b == 0)

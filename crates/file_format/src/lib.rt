@@ -16,10 +16,11 @@ mod listed;
 mod lists;
 mod start;
 mod stored;
+mod version;
 mod whole;
 
 pub use error::{DecodeError, ReadError};
-pub use fixed::{read_fixed, read_zeros, write_fixed, write_zeros};
+pub use fixed::{are_zeros, read_fixed, read_zeros, write_fixed, write_zeros};
 pub use identity::{is_numbered, is_same};
 pub use input::Input;
 pub use items::Items;
@@ -27,4 +28,5 @@ pub use listed::{Listed, Whole};
 pub use lists::{read_into, read_items, write_count, write_items};
 pub use start::{is_closed, is_other};
 pub use stored::Stored;
+pub use version::{Version, version_of};
 pub use whole::{Counted, decode};

@@ -119,7 +119,7 @@ IsLater (change.BootSource source) = ⊥
 IsLater (change.PutDrive drive) = ⊥
 IsLater (change.PutInterface interface) = ⊥
 IsLater (change.MachineConfig machine) = ⊥
-<<<<<<< 717b8584
+<<<<<<< f4895c43
 IsLater (change.PutVsock vsock) = ⊥
 IsLater (change.PutBalloon balloon) = ⊥
 IsLater (change.MmdsConfig mmds) = ⊥
@@ -145,7 +145,7 @@ at_its_time p config (call.PutInterface interface) started placed = too_late p s
 at_its_time p config (call.PatchInterface patch) started placed = tt
 at_its_time p config (call.PutMachineConfig machine) started placed = too_late p started placed
 at_its_time p config (call.PatchMachineConfig patch) started placed = too_late p started placed
-<<<<<<< 717b8584
+<<<<<<< f4895c43
 at_its_time p config (call.PutVsock vsock) started placed = too_late p started placed
 at_its_time p config (call.PutBalloon balloon) started placed = too_late p started placed
 at_its_time p config (call.PatchBalloon patch) started placed = tt
@@ -270,7 +270,7 @@ leaves_on g (change.PatchInterface patch) m n there later is =
     relimited_keeps h.0 transmits_told patch.tx_rate_limiter number (relimited receives_told patch.rx_rate_limiter number m.guest) h.1 in
     moved g m n after is (by_events g q.0 m after q.1 refl refl (keeps_both g h.0 q.0 h.2 q.2))
 leaves_on g (change.MachineConfig machine) m n there later is = absurd later
-<<<<<<< 717b8584
+<<<<<<< f4895c43
 leaves_on g (change.PutVsock vsock) m n there later is = absurd later
 =======
 >>>>>>> m
@@ -283,7 +283,7 @@ leaves_on g (change.PatchStatistics patch) m n there later is =
     let after : Machine = configured (patched_statistics m patch) (change.PatchStatistics patch) in
     let h = retimed_keeps g (with_interval patch m.config.balloon) (balloon_device m.config) m.guest there in
     moved g m n after is (by_events g h.0 m after h.1 refl refl h.2)
-<<<<<<< 717b8584
+<<<<<<< f4895c43
 leaves_on g (change.MmdsConfig mmds) m n there later is = absurd later
 =======
 >>>>>>> m
@@ -322,7 +322,7 @@ fails_on g change.Start m left n there x = same g m n there x.1
 fails_on g (change.State state) m left n there x = absurd x
 fails_on g (change.CreateSnapshot it) m left n there x = create_fails_on g m.guest m it left n there x
 fails_on g (change.LoadSnapshot load) m left n there x = same g m n there x.1
-<<<<<<< 717b8584
+<<<<<<< f4895c43
 fails_on g (change.PutVsock vsock) m left n there x = absurd x
 fails_on g (change.PutBalloon balloon) m left n there x = absurd x
 fails_on g (change.PatchBalloon patch) m left n there x = absurd x

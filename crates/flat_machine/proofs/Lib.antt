@@ -5,7 +5,7 @@ pub mod Determined
 pub mod Drives
 pub mod Fields
 pub mod Interfaces
-<<<<<<< 717b8584
+<<<<<<< f4895c43
 pub mod Mmds
 =======
 >>>>>>> m

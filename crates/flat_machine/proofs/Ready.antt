@@ -179,7 +179,7 @@ module _ (m : Machine) (image : List ℕ) (ready : Ready m) (there : image_of m 
             source = source_there.source;
             drives = source_there.drives;
             interfaces = source_there.interfaces;
-<<<<<<< 717b8584
+<<<<<<< f4895c43
             vsock = source_there.vsock;
             mmds = source_there.mmds;
 =======
@@ -278,7 +278,7 @@ leaves_ready (change.PatchInterface patch) m n ready known is =
     let it : Change = change.PatchInterface patch in
     ready_is (configured (patched_interface m patch) it) n is
     (limits_ready m patch ready (changed_taken m.config it ready.taken (allowed_fits m it ready.taken known)))
-<<<<<<< 717b8584
+<<<<<<< f4895c43
 leaves_ready (change.PutVsock vsock) m n ready known is =
     let it : Change = change.PutVsock vsock in
     ready_is (configured m it) n is
@@ -297,7 +297,7 @@ leaves_ready (change.PatchStatistics patch) m n ready known is =
     let it : Change = change.PatchStatistics patch in
     ready_is (configured (patched_statistics m patch) it) n is
     (interval_ready m patch ready (changed_taken m.config it ready.taken (allowed_fits m it ready.taken known)))
-<<<<<<< 717b8584
+<<<<<<< f4895c43
 leaves_ready (change.MmdsConfig mmds) m n ready known is =
     let it : Change = change.MmdsConfig mmds in
     ready_is (configured m it) n is
@@ -344,7 +344,7 @@ fails_ready (change.CreateSnapshot it) m left n ready x = create_fails_ready m.g
 fails_ready (change.LoadSnapshot load) m left n ready x = ready_is m n x.1 ready
 fails_ready (change.PutInterface interface) m left n ready x = absurd x
 fails_ready (change.PatchInterface patch) m left n ready x = absurd x
-<<<<<<< 717b8584
+<<<<<<< f4895c43
 fails_ready (change.PutVsock vsock) m left n ready x = absurd x
 fails_ready (change.PutBalloon balloon) m left n ready x = absurd x
 fails_ready (change.PatchBalloon patch) m left n ready x = absurd x

@@ -10,7 +10,7 @@ use Rattle.vm_types.specs.Saved.{Saved}
 use Rattle.refusals.specs.declared.refusal.Refusal.{Refusal}
 use Rattle.refusals.specs.declared.refusal.Refusal.TheVariants as refusal
 use Rattle.vm_config.specs.declared.config.Config.{Config}
-<<<<<<< 717b8584
+<<<<<<< f4895c43
 use Rattle.vm_config.specs.Devices.{Configured, devices_of, of_balloon, of_drive, of_interface, of_vsock}
 =======
 use Rattle.vm_config.specs.Devices.{Configured, devices_of, of_balloon, of_drive, of_interface}
@@ -95,7 +95,7 @@ few_sectors (Some bytes) = omega arith
 device_fits : (saved : Saved) (d : Configured) → FitsNew (device_from saved d)
 device_fits saved (of_drive d) = few_sectors (get saved d.path_on_host)
 device_fits saved (of_interface i) = tt
-<<<<<<< 717b8584
+<<<<<<< f4895c43
 device_fits saved (of_vsock v) = tt
 =======
 >>>>>>> m

@@ -71,7 +71,7 @@ some_change (change.PutInterface interface) m given is ready fields = ([], confi
 some_change (change.PatchInterface patch) m given is ready fields =
     ([], configured (patched_interface m patch) (change.PatchInterface patch), (refl, refl))
 some_change (change.MachineConfig machine) m given is ready fields = ([], configured m (change.MachineConfig machine), (refl, refl))
-<<<<<<< 717b8584
+<<<<<<< f4895c43
 some_change (change.PutVsock vsock) m given is ready fields = ([], configured m (change.PutVsock vsock), (refl, refl))
 =======
 >>>>>>> m
@@ -79,7 +79,7 @@ some_change (change.PutBalloon balloon) m given is ready fields = ([], configure
 some_change (change.PatchBalloon patch) m given is ready fields = ([], configured (patched_balloon m patch) (change.PatchBalloon patch), (refl, refl))
 some_change (change.PatchStatistics patch) m given is ready fields =
     ([], configured (patched_statistics m patch) (change.PatchStatistics patch), (refl, refl))
-<<<<<<< 717b8584
+<<<<<<< f4895c43
 some_change (change.MmdsConfig mmds) m given is ready fields = ([], configured m (change.MmdsConfig mmds), (refl, refl))
 =======
 >>>>>>> m

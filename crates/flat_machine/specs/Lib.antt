@@ -2,7 +2,7 @@ pub mod Balloon
 pub mod Between
 pub mod Given
 pub mod Interfaces
-<<<<<<< 717b8584
+<<<<<<< f4895c43
 pub mod Vsock
 =======
 >>>>>>> m

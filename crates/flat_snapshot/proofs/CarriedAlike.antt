@@ -26,7 +26,7 @@ use Rattle.flat_guest.specs.Same.{AreAlike}
 use Rattle.flat_guest.proofs.Marked.{none_marked}
 use Rattle.snap_state.specs.declared.copy.StateCopy.{StateCopy}
 use Rattle.snap_harts.specs.Copy.{IsBegunByFetch, regs_of, saved_hart}
-use Rattle.file_format.specs.Versions.{Version}
+use Rattle.file_format.specs.declared.version.Version.{Version}
 use Rattle.snap_state.specs.Files.{IsSaved}
 use Rattle.snap_harts.specs.Harts.{hart}
 use Rattle.snap_state.specs.Valid.{is_hart}

@@ -13,7 +13,7 @@ use Rattle.vm_types.specs.declared.identity.Identity.{Identity}
 use Rattle.le_fields.specs.Fields.{bytes_of}
 use Rattle.le_fields.proofs.Values.{long, value_of_bytes}
 use Rattle.file_format.specs.Kinds.{list_of, number32}
-use Rattle.file_format.specs.Versions.{Version}
+use Rattle.file_format.specs.declared.version.Version.{Version}
 use Rattle.guest_devices.specs.declared.device.Device.{Device}
 use Rattle.guest_devices.specs.Kept.{device_left}
 use Rattle.guest_devices.proofs.Follows.{at_start}

@@ -1,16 +1,17 @@
 -- What a create of a diff writes is the file of the diff of two copies.
-use Rattle.std.proofs.Common.{◌≡◌, ℕ, zero, suc, ◌+◌, ◌*◌, ◌<◌, ◌≤◌, ◌==◌, Bool, true, false, cond, List, ◌∷◌, ◌++◌, length, drop, refl, ap, ◌∙◌, arith, inl, inr, append_assoc}
+use Rattle.std.proofs.Common.{◌≡◌, ℕ, zero, suc, ◌+◌, ◌*◌, ◌<◌, ◌≤◌, ◌==◌, Bool, true, false, cond, List, ◌∷◌, length, refl, sym, ap, subst, ◌∙◌, arith, inl, inr}
 use Rattle.std.specs.Prelude.{IsTrue}
-use Rattle.std.specs.List.{AllByRecursion, list_any}
+use Rattle.std.specs.List.{list_any}
 use Rattle.std.proofs.lemmas.Bool.{cases_lt, eqb-false, or_parts}
 use Rattle.vm_types.specs.declared.identity.Identity.{Identity}
-use Rattle.file_format.specs.Kinds.{fixed, number32}
+use Rattle.file_format.specs.declared.version.Version.TheVariants.{Two}
 use Rattle.snap_diff.specs.Copies.{DiffCopy, IsDiffOf, rises}
-use Rattle.snap_diff.specs.Diffs.{IsDiffFile, table_bytes}
-use Rattle.snap_diff.specs.Headers.{header, header_of, is_header}
-use Rattle.snap_diff.proofs.Files.{made}
+use Rattle.snap_diff.specs.Diffs.{IsDiffFile, parts, parts_in}
+use Rattle.snap_diff.specs.Headers.{are_names, names, names_of}
+use Rattle.snap_diff.proofs.Files.{opened_parts}
 use Rattle.snap_diff.proofs.Laying.{size_of_pages}
 use Rattle.snap_diff.proofs.Tables.{rises_on}
+use Rattle.snap_diff.proofs.Written.{written_file}
 use Rattle.flat_guest.specs.Guest.{Guest, numbers_written, unwritten}
 use Rattle.flat_snapshot.specs.Files.{diff_file, diff_head, diff_in, memory_in}
 use Rattle.flat_snapshot.specs.Unwritten.{KeepsUnwritten}
@@ -36,16 +37,6 @@ few_by i count numbers false few = omega (arith, few)
 pub written_few : (written : ℕ → Bool) (i count : ℕ) → length (numbers_written written i count) ≤ count
 written_few written i zero = omega arith
 written_few written i (suc count) = few_by i count (numbers_written written (suc i) count) (written i) (written_few written (suc i) count)
-
-fit_by : (i : ℕ) (numbers : List ℕ) (b : Bool) → i < 4294967296 → AllByRecursion number32.Fits numbers → AllByRecursion number32.Fits (cond b (i ∷ numbers) numbers)
-unfolding number32
-fit_by i numbers true small fit = (small, fit)
-fit_by i numbers false small fit = fit
-
-written_fit : (written : ℕ → Bool) (i count : ℕ) → i + count ≤ 4294967296 → AllByRecursion number32.Fits (numbers_written written i count)
-written_fit written i zero small = tt
-written_fit written i (suc count) small =
-    fit_by i (numbers_written written (suc i) count) (written i) (omega (arith, small)) (written_fit written (suc i) count (omega (arith, small)))
 
 lacks_by : (written : ℕ → Bool) (i count k : ℕ) (b : Bool) → written i ≡ b → i ≤ k
     → list_any (λ n. n == k) (cond b (i ∷ numbers_written written (suc i) count) (numbers_written written (suc i) count)) ≡ false
@@ -81,24 +72,15 @@ diff_of_both old new before pages g h same keeps = record {
 
 -- ---- its file
 
-opens : (d : DiffCopy) → 1 ∷ drop 1 (header.bytes (header_of d) ++ table_bytes d.numbers) ≡ header.bytes (header_of d) ++ table_bytes d.numbers
-unfolding header fixed
-opens d = refl
-
-file_is : (d : DiffCopy) → diff_file d ≡ header.bytes (header_of d) ++ (table_bytes d.numbers ++ d.bytes)
+file_is : (d : DiffCopy) → diff_file d ≡ parts.bytes (parts_in Two d)
 unfolding diff_head
-file_is d = ap (λ (l : List ℕ). l ++ d.bytes) (opens d) ∙ append_assoc (header.bytes (header_of d)) (table_bytes d.numbers) d.bytes
+file_is d = opened_parts (parts_in Two d)
 
-pages_fit : (d : DiffCopy) → header.Fits (header_of d) → d.pages < 4294967296
-unfolding header number32
-pages_fit d fits = fits.1.1.0
-
-pub is_file : (parent identity : Identity) (pages : ℕ) (g : Guest) → header.Fits (header_of (diff_in parent identity pages g))
-    → IsTrue (is_header (header_of (diff_in parent identity pages g))) → length g.memory.bytes ≡ 4096 * pages
+pub is_file : (parent identity : Identity) (pages : ℕ) (g : Guest) → names.Fits (names_of (diff_in parent identity pages g))
+    → IsTrue (are_names (names_of (diff_in parent identity pages g))) → length g.memory.bytes ≡ 4096 * pages
     → IsDiffFile (diff_file (diff_in parent identity pages g)) (diff_in parent identity pages g)
 is_file parent identity pages g fits valid whole =
     let d : DiffCopy = diff_in parent identity pages g in
-    let small = pages_fit d fits in
     let rise = written_rise g.written pages 0 0 pages (omega arith) (omega arith) in
-    made (diff_file d) (header_of d) d.numbers d.bytes fits valid (written_fit g.written 0 pages (omega (arith, small))) refl
-    (size_of_pages d.numbers pages 0 g.memory.bytes rise whole) rise (file_is d)
+    subst (λ (file : List ℕ). IsDiffFile file d) (sym (file_is d))
+    (written_file d (record { rise = rise; size = size_of_pages d.numbers pages 0 g.memory.bytes rise whole }) fits valid)

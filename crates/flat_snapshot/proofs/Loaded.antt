@@ -16,7 +16,8 @@ use Rattle.gate_file.proofs.Inserts.{got_other, got_there}
 use Rattle.file_format.specs.Kinds.{fixed}
 use Rattle.file_format.specs.Identities.{is_numbered, is_same}
 use Rattle.file_format.specs.Starts.{is_other}
-use Rattle.file_format.specs.Versions.{Version, current_version, version_of}
+use Rattle.file_format.specs.Versions.{current_version, version_of}
+use Rattle.file_format.specs.declared.version.Version.{Version}
 use Rattle.snap_memory.specs.declared.header.MemHeader.{MemHeader}
 use Rattle.snap_memory.specs.Headers as memory
 use Rattle.snap_memory.proofs.Fronts as fronts
@@ -42,7 +43,7 @@ module _ (given : List ℕ) (s : file.Saved) (e : state.Encodes given s) where
   len = length ((state_copy v).bytes s.copy)
 
   rest_is : drop 12 given ≡ (state.contents v).bytes (state.contents_of v s)
-  rest_is = ap (drop 12) e.bytes
+  rest_is = ap (drop 12) e.bytes ∙ copies.behind_magic v ((state.contents v).bytes (state.contents_of v s))
 
   reads : (state.contents v).reads (drop 12 given) ≡ Some (state.contents_of v s, [])
   reads =

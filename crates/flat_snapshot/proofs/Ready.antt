@@ -284,7 +284,7 @@ module _ (config : Config) (g : Guest) (sound : IsSound g) (is : IsReady config 
     source = is.configured.source;
     drives = is.configured.drives;
     interfaces = is.configured.interfaces;
-<<<<<<< 717b8584
+<<<<<<< f4895c43
     vsock = is.configured.vsock;
     mmds = is.configured.mmds;
 =======

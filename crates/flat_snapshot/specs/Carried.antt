@@ -65,7 +65,7 @@ carried_config tracking c = record {
   });
   drives = c.drives;
   interfaces = c.interfaces;
-<<<<<<< 717b8584
+<<<<<<< f4895c43
   vsock = c.vsock;
   machine = record c.machine { track_dirty_pages = tracking };
   balloon = c.balloon;

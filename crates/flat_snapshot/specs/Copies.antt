@@ -56,7 +56,7 @@ configuration_of config = record {
   boot_source = source_of config.boot_source;
   drives = config.drives;
   interfaces = config.interfaces;
-<<<<<<< 717b8584
+<<<<<<< f4895c43
   vsock = config.vsock;
   machine = config.machine;
   balloon = config.balloon;

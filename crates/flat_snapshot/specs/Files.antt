@@ -1,6 +1,6 @@
 -- The two files of a snapshot, and the calls that write them. Each is a total function: whether a file of these bytes
 -- is one that can be loaded is for the load to judge.
-use Rattle.std.specs.Prelude.{ℕ, List, ◌∷◌, ◌++◌, drop, Option, Some, None}
+use Rattle.std.specs.Prelude.{ℕ, List, ◌∷◌, ◌++◌, length, drop, Option, Some, None}
 use Rattle.vm_types.specs.declared.identity.Identity.{Identity}
 use Rattle.vm_outside.specs.Calls.{FileCall}
 use Rattle.flat_guest.specs.Guest.{Guest, numbers_written}
@@ -8,8 +8,7 @@ use Rattle.file_format.specs.Versions.{current_version}
 use Rattle.snap_memory.specs.Headers.{header, new_header}
 use Rattle.snap_diff.specs.Copies.{DiffCopy, MemoryCopy, diff_of, pages_at}
 use Rattle.snap_diff.specs.Headers as diffs
-use Rattle.snap_diff.specs.Headers.{header_of}
-use Rattle.snap_diff.specs.Diffs.{table_bytes}
+use Rattle.snap_diff.specs.Diffs.{header_in, runs_in, stored_pages, table_bytes}
 use Rattle.snap_state.specs.declared.copy.StateCopy.{StateCopy}
 use Rattle.snap_state.specs.Files as state
 use Rattle.snap_writer.specs.Create.{create_calls}
@@ -34,13 +33,13 @@ memory_in identity pages g = record { identity = identity; pages = pages; bytes 
 abbrev pub diff_in : Identity → Identity → ℕ → Guest → DiffCopy
 diff_in parent identity pages g = diff_of parent (memory_in identity pages g) (numbers_written g.written 0 pages)
 
--- the header and the page numbers, behind the gate
+-- the header and the table, behind the gate, in the version that is written
 unfoldable pub diff_head : DiffCopy → List ℕ
-diff_head d = drop 1 (diffs.header.bytes (header_of d) ++ table_bytes d.numbers)
+diff_head d = drop 1 (diffs.header.bytes (header_in current_version d) ++ table_bytes current_version (runs_in current_version d))
 
--- an open gate, that, and the pages
+-- an open gate, that, and the pages that are stored
 abbrev pub diff_file : DiffCopy → List ℕ
-diff_file d = 1 ∷ diff_head d ++ d.bytes
+diff_file d = 1 ∷ diff_head d ++ stored_pages current_version (length d.numbers) d.bytes
 
 -- ---- either: a diff has a parent, and a full snapshot has none
 
@@ -49,10 +48,11 @@ abbrev pub head_of : Option Identity → Identity → ℕ → Guest → List ℕ
 head_of None identity pages g = memory_head identity pages
 head_of (Some parent) identity pages g = diff_head (diff_in parent identity pages g)
 
--- the pages
+-- the pages that are stored
 abbrev pub saved_pages : Option Identity → ℕ → Guest → List ℕ
 saved_pages None pages g = g.memory.bytes
-saved_pages (Some parent) pages g = pages_at (numbers_written g.written 0 pages) g.memory.bytes
+saved_pages (Some parent) pages g =
+    stored_pages current_version (length (numbers_written g.written 0 pages)) (pages_at (numbers_written g.written 0 pages) g.memory.bytes)
 
 -- ---- the state file
 

@@ -9,7 +9,8 @@ ghost use Rattle.vm_types.specs.declared.ids.ActorId.TheVariants.{Timer};
 ghost use Rattle.refusals.specs.declared.refusal.Refusal.TheVariants as refusal;
 ghost use Rattle.api_calls.specs.declared.call.SnapshotFiles.{SnapshotFiles};
 ghost use Rattle.file_format.specs.Identities.{is_numbered};
-ghost use Rattle.file_format.specs.Versions.{Version, current_version};
+ghost use Rattle.file_format.specs.Versions.{current_version};
+ghost use Rattle.file_format.specs.declared.version.Version.{Version};
 ghost use Rattle.gate_file.specs.Moments.{IsShut};
 ghost use Rattle.guest_memory.specs.Ram.{page_size};
 ghost use Rattle.guest_memory.specs.Reserved.{hart_limit};
@@ -17,7 +18,7 @@ ghost use Rattle.snap_memory.specs.declared.header.MemHeader.{MemHeader};
 ghost use Rattle.snap_memory.specs.Headers.{header, identity_of, is_valid, new_header};
 ghost use Rattle.snap_diff.specs.Copies.{IsDiffOf};
 ghost use Rattle.snap_diff.specs.Diffs.{IsDiffFile};
-ghost use Rattle.snap_diff.specs.Headers.{header as diff_header, header_of, is_header};
+ghost use Rattle.snap_diff.specs.Headers.{are_names, names, names_of};
 ghost use Rattle.snap_state.specs.Files.{Encodes, IsSaved};
 ghost use Rattle.snap_state.specs.Valid.{is_valid as is_valid_copy};
 ghost use Rattle.flat_snapshot.specs.Files.{diff_file, diff_in, memory_file, memory_in, state_file};
@@ -125,12 +126,12 @@ pub fn unwritten_pages()
 {}
 
 /// What a create of a diff writes under the name of the memory is the file of the diff of the guest's memory since the
-/// parent, where a file can have its header. If the guest is that which the parent's create left, after events, the diff is
+/// parent, where a file can have its names. If the guest is that which the parent's create left, after events, the diff is
 /// what makes its memory of the parent's.
 pub fn diff_since()
     ensures file { (parent identity : Identity) (pages : ℕ) (g : Guest) →
-        diff_header.Fits (header_of (diff_in parent identity pages g)) →
-        IsTrue (is_header (header_of (diff_in parent identity pages g))) → length g.memory.bytes ≡ page_size * pages →
+        names.Fits (names_of (diff_in parent identity pages g)) →
+        IsTrue (are_names (names_of (diff_in parent identity pages g))) → length g.memory.bytes ≡ page_size * pages →
         IsDiffFile (diff_file (diff_in parent identity pages g)) (diff_in parent identity pages g) }
     ensures made { (old new : Identity) (before pages : ℕ) (g h : Guest) → pages ≡ before →
         KeepsUnwritten (unwritten g) h →

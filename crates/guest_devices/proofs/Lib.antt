@@ -5,7 +5,7 @@ pub mod OfKind
 pub mod Owed
 pub mod Placed
 pub mod Ports
-<<<<<<< 717b8584
+<<<<<<< f4895c43
 pub mod Saved
 =======
 >>>>>>> m

@@ -3,7 +3,7 @@
 use crate::drive::NewDrive;
 use balloon_device::NewBalloon;
 use net_device::NewNet;
-<<<<<<< 717b8584
+<<<<<<< f4895c43
 use vsock_device::NewVsock;
 =======
 >>>>>>> m
@@ -13,7 +13,7 @@ use vsock_device::NewVsock;
 pub enum NewDevice {
     Block(NewDrive),
     Net(NewNet),
-<<<<<<< 717b8584
+<<<<<<< f4895c43
     Vsock(NewVsock),
 =======
 >>>>>>> m

@@ -50,7 +50,7 @@ use Rattle.monitor_plans.specs.declared.plan.Task.TheVariants as task
 use Rattle.create_end.specs.Saved.{IsSavedWorld}
 use Rattle.monitor_machine.specs.declared.machine.LiveMachine.{LiveMachine}
 use Rattle.monitor_machine.specs.declared.outcome.Outcome.{Outcome}
-<<<<<<< 717b8584
+<<<<<<< f4895c43
 use Rattle.monitor_machine.specs.Plans.{IsCreate, IsCreated, IsTask, TaskKeepsReady, failed_after, told_of}
 use Rattle.monitor_machine.specs.Replying.{Replies, open_response}
 use Rattle.monitor_machine.specs.State.{IsGuestBy, IsMachine}
@@ -215,7 +215,7 @@ module _ (c : Creation) (live : LiveMachine) (w : WorldValue) (known left : File
   saved_is after left =
       world_saved w after.guest due.guest here (subst (λ (o : Option WorldValue). IsSavedWorld o after.guest) there left.0)
 
-<<<<<<< 717b8584
+<<<<<<< f4895c43
   pub create_does : (after : LiveMachine) → IsCreated c live after → TellsOwn live
       → writes.Creates c.names.mem_file_path c.head (written_of c w) c.names.snapshot_path c.body known left
       → RequestStep (flat.Outcome.Answered kept) given m (respond given no_content) end × IsMachine after left end
@@ -370,7 +370,7 @@ module _ (form : ResponseForm) (c : Creation) (live after : LiveMachine) (w : Wo
   alone : (response : Response) → written ≡ text ++ written_as form response → written ≡ text ++ (written_as form response ++ [])
   alone response is = is ∙ ap (λ (l : List ℕ). text ++ l) (sym (append-nil (written_as form response)))
 
-<<<<<<< 717b8584
+<<<<<<< f4895c43
   pub is_written : TellsOwn live → IsCreated c live after → written ≡ text ++ written_as form (open_response no_content) → left.health.faults ≡ known.health.faults
 =======
   pub is_written : TellsOwn live → after ≡ created_after c live → written ≡ text ++ written_as form (open_response no_content) → left.health.faults ≡ known.health.faults
@@ -385,7 +385,7 @@ module _ (form : ResponseForm) (c : Creation) (live after : LiveMachine) (w : Wo
     responses = respond given no_content;
     writes = alone (open_response no_content) writes;
     went = λ told m is.
-<<<<<<< 717b8584
+<<<<<<< f4895c43
         let does = create_does c live w known left m given kept there is (due told m is) after leaves tells (wrote told) in
         (end c live w known left m given kept there is (due told m is), does.0, does.1);
 =======

@@ -206,7 +206,7 @@ told_stays live (change.BootSource source) after tells it = same_stays live afte
 told_stays live (change.PutDrive drive) after tells it = same_stays live after (sym tells) it
 told_stays live (change.PutInterface interface) after tells it = same_stays live after (sym tells) it
 told_stays live (change.MachineConfig machine) after tells it = same_stays live after (sym tells) it
-<<<<<<< 717b8584
+<<<<<<< f4895c43
 told_stays live (change.PutVsock vsock) after tells it = same_stays live after (sym tells) it
 told_stays live (change.PutBalloon balloon) after tells it = same_stays live after (sym tells) it
 told_stays live (change.MmdsConfig mmds) after tells it = same_stays live after (sym tells) it
@@ -250,7 +250,7 @@ stand_guest (change.PatchDrive patch) paused config guest is = (guest, λ w here
 stand_guest (change.PutInterface interface) paused config guest is = (guest, λ w here. here, is)
 stand_guest (change.PatchInterface patch) paused config guest is = (guest, λ w here. here, is)
 stand_guest (change.MachineConfig machine) paused config guest is = (guest, λ w here. here, is)
-<<<<<<< 717b8584
+<<<<<<< f4895c43
 stand_guest (change.PutVsock vsock) paused config guest is = (guest, λ w here. here, is)
 stand_guest (change.PutBalloon balloon) paused config guest is = (guest, λ w here. here, is)
 stand_guest (change.PatchBalloon patch) paused config guest is = (guest, λ w here. here, is)

@@ -85,7 +85,7 @@ left_tells (device.Balloon b) p kept =
     ap (λ (d : DataOf BalloonKind). told_by (Some p.config) (Some d.own.statistics)) (sym (device_root (device.Balloon b) kept))
 left_tells (device.Block b) p kept = refl
 left_tells (device.Net n) p kept = refl
-<<<<<<< 717b8584
+<<<<<<< f4895c43
 left_tells (device.Vsock v) p kept = refl
 =======
 >>>>>>> m
@@ -207,7 +207,7 @@ change_at (change.BootSource source) config w v g is tells = subst (λ (o : Opti
 change_at (change.PutDrive drive) config w v g is tells = subst (λ (o : Option WorldValue). IsGuestBy o g) (sym tells) is
 change_at (change.PutInterface interface) config w v g is tells = subst (λ (o : Option WorldValue). IsGuestBy o g) (sym tells) is
 change_at (change.MachineConfig machine) config w v g is tells = subst (λ (o : Option WorldValue). IsGuestBy o g) (sym tells) is
-<<<<<<< 717b8584
+<<<<<<< f4895c43
 change_at (change.PutVsock vsock) config w v g is tells = subst (λ (o : Option WorldValue). IsGuestBy o g) (sym tells) is
 change_at (change.PutBalloon balloon) config w v g is tells = subst (λ (o : Option WorldValue). IsGuestBy o g) (sym tells) is
 change_at (change.MmdsConfig mmds) config w v g is tells = subst (λ (o : Option WorldValue). IsGuestBy o g) (sym tells) is

@@ -1,21 +1,29 @@
 -- What stands before the pages of a diff, and which pages these are.
-use Rattle.std.proofs.Common.{◌≡◌, ℕ, suc, ◌+◌, ◌≤◌, nat_le, nat_lt, Bool, true, false, not, ◌&&◌, cond, List, [], ◌∷◌, ◌++◌, Some, length, drop, slice_get, refl, ap, ◌∙◌, arith}
+use Rattle.std.proofs.Common.{◌≡◌, ◌==◌, ℕ, suc, ◌+◌, ◌*◌, ◌≤◌, nat_le, nat_lt, Bool, true, false, not, ◌&&◌, cond, List, [], ◌∷◌, ◌++◌, Some, length, drop, slice_get, refl, sym, ap, ◌∙◌, arith}
 use Rattle.std.specs.List.{list_all}
-use Rattle.std.specs.Prelude.{IsTrue}
-use Rattle.std.proofs.lemmas.Bool.{and_from, le-leb, lt-ltb}
+use Rattle.std.specs.Prelude.{IsTrue, ◌/◌}
+use Rattle.std.proofs.lemmas.Bool.{and_from, and_parts, eq-eqb, le-leb, leb-true, lt-ltb}
 use Rattle.std.proofs.lemmas.List.{length-map}
 use Rattle.vm_types.specs.declared.identity.Identity.{Identity}
 use Rattle.file_format.specs.Identities.{is_numbered, is_same}
 use Rattle.guest_pages.specs.Marks.{marked_from}
-use Rattle.guest_pages.specs.Pages.{PageValue, marks_of}
+use Rattle.guest_pages.specs.Pages.{PageValue, flat_of, marks_of}
 use Rattle.flat_guest.specs.Guest.{Guest, numbers_written}
-use Rattle.snap_diff.specs.Copies.{rises}
-use Rattle.snap_diff.specs.Diffs.{table_bytes}
+use Rattle.file_format.specs.declared.version.Version.TheVariants.{Two}
+use Rattle.snap_diff.specs.declared.header.DiffNames.{DiffNames}
+use Rattle.snap_diff.specs.declared.run.Run.{Run}
+use Rattle.snap_diff.specs.Copies.{pages_at, rises}
+use Rattle.snap_diff.specs.Diffs.{is_table, runs_in, stored_pages, table_bytes}
 use Rattle.snap_diff.specs.Headers.{header}
-use Rattle.flat_snapshot.specs.Files.{diff_head, diff_in}
+use Rattle.snap_diff.specs.Runs.{are_runs, chosen, kinds_of, runs_of, stored_in}
+use Rattle.snap_diff.proofs.Filled.{as_many_kinds}
+use Rattle.snap_diff.proofs.Written.{few_runs, filled_at, runs_are, stored_chosen}
+use Rattle.flat_snapshot.specs.Files.{diff_head, diff_in, saved_pages}
 use Rattle.snap_writer.specs.Selected.{are_there}
+use Rattle.snap_writer.proofs.ByKind.{few_chosen}
+use Rattle.snap_writer.proofs.Selecting.{length-pages}
 use Rattle.vm_world.specs.Worlds.{IsWorld, WorldValue}
-use Rattle.monitor_plans.specs.Headings.{HasParent}
+use Rattle.monitor_plans.specs.Headings.{HasParent, kinds_in}
 
 -- the pages that are marked are those that were written
 by_mark : (mark wrote : Bool) (i : ℕ) (marks : List Bool) (others : List ℕ) → mark ≡ wrote → marked_from (suc i) marks ≡ others
@@ -91,6 +99,10 @@ few_numbers pages numbers marked =
     let marks = marked_few (marks_of pages) 0 in
     omega (arith, many, marks, length-map pages (λ (p : PageValue). p.marked))
 
+pub few_there : (numbers : List ℕ) (count : ℕ) → are_there numbers count ≡ true → length numbers ≤ count
+few_there numbers count there =
+    leb-true (length numbers) count (and_parts (nat_le (length numbers) count) (list_all (λ n. nat_lt n count) numbers) there).0
+
 -- a header of a diff since another snapshot
 pub is_diff : (parent identity : Identity) → IsTrue (is_numbered identity) → HasParent (Some parent) identity
     → (is_numbered parent && is_numbered identity && not (is_same parent identity)) ≡ true
@@ -98,7 +110,83 @@ is_diff parent identity own (other, differ) =
     and_from _ (not (is_same parent identity)) (and_from (is_numbered parent) (is_numbered identity) other own)
     (ap not differ)
 
+-- ---- the pages that are stored
+
+-- of a memory that is there, each kind by its own page
+pub kinds_here : (count : ℕ) (ns bytes given : List ℕ) → given ≡ pages_at ns bytes → length bytes ≡ 4096 * count → are_there ns count ≡ true
+    → kinds_of (length given / 4096) given ≡ kinds_of (length ns) (pages_at ns bytes)
+kinds_here count ns bytes given is whole there =
+    let size = length-pages ns count bytes whole (and_parts (nat_le (length ns) count) (list_all (λ n. nat_lt n count) ns) there).1 in
+    let many : length (pages_at ns bytes) / 4096 ≡ length ns = omega (arith, size) in
+    ap (λ (l : List ℕ). kinds_of (length l / 4096) l) is ∙ ap (λ (n : ℕ). kinds_of n (pages_at ns bytes)) many
+
+-- one for each page
+pub as_many_in : (pages : List PageValue) (ns : List ℕ) → length (kinds_in pages ns) ≡ length ns
+as_many_in pages ns = as_many_kinds (length ns) (pages_at ns (flat_of pages).bytes)
+
+-- the runs that they are fit the header
+pub table_is : (parent identity : Identity) (pages count stored : ℕ) (ns some : List ℕ) (kinds : List Bool) (runs : List Run)
+    → runs ≡ runs_of ns kinds → some ≡ chosen ns kinds → stored ≡ length some → length kinds ≡ length ns → rises pages 0 ns ≡ true
+    → is_table (record {
+      version = Two;
+      names = record { pages = pages; parent = parent; identity = identity };
+      count = count;
+      stored = stored;
+    }) runs ≡ true
+table_is parent identity pages count stored ns some kinds runs runs_is some_is filled many rise =
+    and_from (are_runs Two pages runs) (stored_in runs == stored)
+    (ap (are_runs Two pages) runs_is ∙ runs_are pages 0 ns kinds rise)
+    (eq-eqb (stored_in runs) stored
+    (ap stored_in runs_is ∙ stored_chosen ns kinds many ∙ ap (λ (l : List ℕ). length l) (sym some_is) ∙ sym filled))
+
+-- no more of either than there are pages
+pub few_of : (pages : ℕ) (ns some : List ℕ) (kinds : List Bool) (runs : List Run) → runs ≡ runs_of ns kinds → some ≡ chosen ns kinds
+    → length ns ≤ pages → (length runs ≤ pages) × (length some ≤ pages)
+few_of pages ns some kinds runs runs_is some_is few = (
+  omega (arith, ap (λ (l : List Run). length l) runs_is, few_runs ns kinds, few),
+  omega (arith, ap (λ (l : List ℕ). length l) some_is, few_chosen ns kinds, few),
+)
+
+-- the kinds of pages of a memory are those of each guest that it is
+pub kinds_there : (w : WorldValue) (g : Guest) (memory : List PageValue) (ns : List ℕ) → IsWorld w g → memory ≡ w.pages
+    → kinds_in memory ns ≡ kinds_of (length ns) (pages_at ns g.memory.bytes)
+kinds_there w g memory ns is same =
+    ap (λ (ps : List PageValue). kinds_in ps ns) same ∙ (λ i. kinds_of (length ns) (pages_at ns (is.memory_is i).bytes))
+
+pub memory_whole : (w : WorldValue) (g : Guest) (memory : List PageValue) (count pages : ℕ) → IsWorld w g → memory ≡ w.pages
+    → length (flat_of memory).bytes ≡ 4096 * count → count ≡ length memory → pages ≡ length w.pages → length g.memory.bytes ≡ 4096 * pages
+memory_whole w g memory count pages is same whole many all =
+    let bytes : length (flat_of w.pages).bytes ≡ length g.memory.bytes = (λ i. length (is.memory_is i).bytes) in
+    let here : length (flat_of memory).bytes ≡ length (flat_of w.pages).bytes = ap (λ (ps : List PageValue). length (flat_of ps).bytes) same in
+    let long : length memory ≡ length w.pages = ap (λ (ps : List PageValue). length ps) same in
+    omega (arith, bytes, here, long, whole, many, all)
+
+-- they are what is saved of a diff
+pub saved_are : (parent : Identity) (pages : ℕ) (ns : List ℕ) (kinds : List Bool) (g : Guest) → ns ≡ numbers_written g.written 0 pages
+    → kinds ≡ kinds_of (length ns) (pages_at ns g.memory.bytes) → rises pages 0 ns ≡ true → length g.memory.bytes ≡ 4096 * pages
+    → pages_at (chosen ns kinds) g.memory.bytes ≡ saved_pages (Some parent) pages g
+saved_are parent pages ns kinds g are kinds_are rise whole =
+    ap (λ (ks : List Bool). pages_at (chosen ns ks) g.memory.bytes) kinds_are
+    ∙ sym (filled_at pages 0 ns g.memory.bytes rise whole)
+    ∙ ap (λ (l : List ℕ). stored_pages Two (length l) (pages_at l g.memory.bytes)) are
+
 -- the header and the table
+<<<<<<< f4895c43
+pub diff_head_is : (parent identity : Identity) (pages count stored : ℕ) (ns start head : List ℕ) (kinds : List Bool) (runs : List Run) (g : Guest)
+    → ns ≡ numbers_written g.written 0 pages → kinds ≡ kinds_of (length ns) (pages_at ns g.memory.bytes) → runs ≡ runs_of ns kinds
+    → count ≡ length runs → stored ≡ stored_in runs
+    → 1 ∷ start ≡ header.bytes (record { version = Two; names = record { pages = pages; parent = parent; identity = identity }; count = count; stored = stored }) ++ table_bytes Two runs
+    → head ≡ start → head ≡ diff_head (diff_in parent identity pages g)
+unfolding diff_head
+diff_head_is parent identity pages count stored ns start head kinds runs g are kinds_are runs_are many filled written same =
+    let names : DiffNames = record { pages = pages; parent = parent; identity = identity } in
+    let all : runs ≡ runs_in Two (diff_in parent identity pages g) =
+    runs_are ∙ ap (runs_of ns) kinds_are ∙ ap (λ (l : List ℕ). runs_of l (kinds_of (length l) (pages_at l g.memory.bytes))) are in
+    same ∙ ap (drop 1) written
+    ∙ ap (λ (n : ℕ). drop 1 (header.bytes (record { version = Two; names = names; count = n; stored = stored }) ++ table_bytes Two runs)) many
+    ∙ ap (λ (n : ℕ). drop 1 (header.bytes (record { version = Two; names = names; count = length runs; stored = n }) ++ table_bytes Two runs)) filled
+    ∙ ap (λ (rs : List Run). drop 1 (header.bytes (record { version = Two; names = names; count = length rs; stored = stored_in rs }) ++ table_bytes Two rs)) all
+=======
 pub diff_head_is : (parent identity : Identity) (pages count : ℕ) (numbers start head : List ℕ) (g : Guest)
     → numbers ≡ numbers_written g.written 0 pages → count ≡ length numbers
     → 1 ∷ start ≡ header.bytes (record { pages = pages; parent = parent; identity = identity; count = count }) ++ table_bytes numbers
@@ -112,3 +200,4 @@ diff_head_is parent identity pages count numbers start head g are long written s
       identity = identity;
       count = (long ∙ ap (λ (l : List ℕ). length l) are) i;
     }) ++ table_bytes (are i)))
+>>>>>>> m

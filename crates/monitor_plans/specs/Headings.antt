@@ -1,8 +1,11 @@
 -- What stands before the pages of a memory file, and which pages follow.
-use Rattle.std.specs.Prelude.{◌≡◌, ℕ, true, false, IsTrue, List, length, Option, Some, None, Vec}
+use Rattle.std.specs.Prelude.{◌≡◌, ℕ, Bool, true, false, IsTrue, List, length, Option, Some, None, Vec}
 use Rattle.std.specs.Global.{Global}
 use Rattle.vm_types.specs.declared.identity.Identity.{Identity}
 use Rattle.file_format.specs.Identities.{is_numbered, is_same}
+use Rattle.guest_pages.specs.Pages.{PageValue, flat_of}
+use Rattle.snap_diff.specs.Copies.{pages_at}
+use Rattle.snap_diff.specs.Runs.{kinds_of}
 use Rattle.flat_guest.specs.Guest.{Guest}
 use Rattle.flat_snapshot.specs.Files.{head_of, saved_pages}
 use Rattle.snap_writer.specs.Selected.{can_select, selected}
@@ -17,6 +20,10 @@ HasParent (Some parent) identity = IsTrue (is_numbered parent) × (is_same paren
 abbrev pub numbers_in : Option (Vec ℕ Global) → Option (List ℕ)
 numbers_in None = None
 numbers_in (Some numbers) = Some numbers.items
+
+-- which of the pages of these numbers aren't of zeros
+abbrev pub kinds_in : List PageValue → List ℕ → List Bool
+kinds_in pages numbers = kinds_of (length numbers) (pages_at numbers (flat_of pages).bytes)
 
 -- of each guest that the world is, whose pages are those of these numbers
 pub record IsHeading (it : Heading) (parent : Option Identity) (identity : Identity) (pages : ℕ) (w : WorldValue) : Type 0 where

@@ -1,6 +1,6 @@
 -- A slice's events, and a drain, are a run over the items that tell them.
 use Rattle.std.proofs.Common.{◌≡◌, ◌<◌, nat_le, ℕ, zero, suc, Bool, true, false, if◌then◌else◌, ◌&&◌, refl, sym, ap, ◌∙◌, subst, List, [], ◌∷◌, ◌++◌, map, take, drop, append-nil, take-append-drop, Option, Some, ◌⊎◌, inl, inr}
-<<<<<<< 717b8584
+<<<<<<< f4895c43
 use Rattle.std.proofs.lemmas.Bool.{le-leb}
 =======
 >>>>>>> m
@@ -25,7 +25,7 @@ use Rattle.vm_world.specs.Worlds.{IsWorld, WorldValue}
 use Rattle.slice_runner.specs.Slices.{Leads, event_of, given_of}
 use Rattle.monitor_running.proofs.Asked.{IsAsking, IsDeviceCall, is_asking}
 use Rattle.device_trace.specs.Acts.{is_disk_call}
-<<<<<<< 717b8584
+<<<<<<< f4895c43
 use Rattle.guest_devices.specs.Kinds.{Balloon, Block, Kind, Net, Vsock, calls_of}
 use Rattle.flat_guest.specs.Sound.{IsSound}
 use Rattle.flat_guest.proofs.Soundness.{sound_next}
@@ -118,7 +118,7 @@ link_again LinkEnd Reply.Failed call fits = refl
 link_again LinkEnd reply call fits = cc
 link_again act reply call fits = cc
 
-<<<<<<< 717b8584
+<<<<<<< f4895c43
 socket_again : (act : OutOp) (reply : Reply) → calls_of Vsock act ≡ true → out_fits act reply ≡ true → IsShort (Op.Out act) reply
     → reply_given (host_reply reply) ≡ Host reply
 socket_again HostNext Reply.Nothing call fits short = refl
@@ -160,7 +160,7 @@ given_again : (e : Entry) (act : OutOp) → IsAsking e act ⊎ IsDeviceCall e ac
     → reply_given (host_reply e.reply) ≡ Host e.reply
 given_again e act (inl asking) is heard =
     subst (λ (r : Reply). reply_given (host_reply r) ≡ Host r) (sym asking.reply) refl
-<<<<<<< 717b8584
+<<<<<<< f4895c43
 given_again e act (inr own) is heard =
     let device : IsShort e.op e.reply = subst (λ (a : ActorId). IsHeard a e.op e.reply) own.actor heard in
     call_again own.call.0 act e.reply own.call.1 own.fits (subst (λ (o : Op). IsShort o e.reply) is device)

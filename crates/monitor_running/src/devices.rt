@@ -27,7 +27,7 @@ ghost use Rattle.port_table.specs.Window.{most_ports};
 ghost use Rattle.flat_guest.specs.Guest.{Guest};
 ghost use Rattle.vm_world.specs.Worlds.{IsWorld, WorldValue};
 ghost use Rattle.slice_runner.specs.Slices.{IsSerial};
-<<<<<<< 717b8584
+<<<<<<< f4895c43
 ghost use Rattle.monitor_running.specs.Devices.{CanBeAsked, DiskWasAsked, HaveActed, IsDevices, IsGiven, IsGivenByDisk, unserved_reply};
 =======
 ghost use Rattle.monitor_running.specs.Devices.{CanBeAsked, DiskWasAsked, HaveActed, IsDevices, IsGiven, IsGivenByDisk, link_reply};
@@ -121,7 +121,7 @@ fn ask_disk<D: Disk>(disk: &mut D, device: u8, op: &Op) -> Option<Reply>
     }
 }
 
-<<<<<<< 717b8584
+<<<<<<< f4895c43
 // What a device is answered that calls its link or its socket: none is served.
 fn ask_unserved(op: &Op) -> Option<Reply>
     ensures { result ≡ unserved_reply op.now }
@@ -154,7 +154,7 @@ fn ask_host<D: Disk>(disk: &mut D, device: u8, op: &Op) -> Option<Reply>
     ensures given { IsGiven device op.now (D.known disk.old) result (D.known disk.new) }
     ensures lasts { Lasts (D.known disk.old).health (D.known disk.new).health }
 {
-<<<<<<< 717b8584
+<<<<<<< f4895c43
     match ask_unserved(op) {
 =======
     match ask_link(op) {

@@ -2,7 +2,7 @@
 //! compare with `stdout`. What they do is proved where a contract can say it; which bytes the system gives and takes,
 //! and that a call with enough memory succeeds, is shown here.
 //!
-//! Each line is what was done, and what came out. `data/` has the files that are read, and the merges and commands that
+//! Each line is what was done, and what came out. `data/` has the files that are read, and the merges, converts and commands that
 //! are tried. What is made there is removed.
 #![tactic(auto)]
 
@@ -10,6 +10,7 @@ mod accepts;
 mod addresses;
 mod commands;
 mod conns;
+mod converts;
 mod cut_off;
 mod devices;
 mod filing;
@@ -24,6 +25,7 @@ mod parts;
 mod showing;
 mod silences;
 mod sockets;
+mod spoilt;
 mod steps;
 mod stored;
 mod streams;
@@ -68,5 +70,7 @@ fn show_in_memory(alloc: Global, shown: &mut Shown) -> Result<(), AllocError> {
 fn show_merges(rt: &HostRuntime, shown: &mut Shown) -> io::Result<()> {
     merges::show(rt, shown)?;
     cut_off::show(rt.alloc(), shown)?;
+    converts::show(rt, shown)?;
+    spoilt::show(rt.alloc(), shown)?;
     commands::show(rt, shown)
 }

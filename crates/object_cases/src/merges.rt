@@ -6,14 +6,14 @@ use std::alloc::{AllocError, Global};
 use std::{fs, io};
 use vm_outside::{Failed, Files};
 
-// How a memory file begins, a diff with page 7, and a diff with no page, of snapshots 1, 2 and 3 of lineage 5.
+// How a memory file begins, a diff of version 1 with page 7, and a diff of version 2 with no page, of snapshots 1, 2 and 3 of lineage 5.
 const WHOLE: [u8; 32] = *b"\x01RVFCMEM\x01\0\0\0\x08\0\0\0\x05\0\0\0\0\0\0\0\x01\0\0\0\0\0\0\0";
 
 const FIRST: [u8; 68] =
     *b"\x01RVFCDIF\x01\0\0\0\x08\0\0\0\x05\0\0\0\0\0\0\0\x01\0\0\0\0\0\0\0\x05\0\0\0\0\0\0\0\x02\0\0\0\0\0\0\0\x01\0\0\0\0\0\0\0\0\0\0\0\0\0\0\0\x07\0\0\0";
 
 const SECOND: [u8; 64] =
-    *b"\x01RVFCDIF\x01\0\0\0\x08\0\0\0\x05\0\0\0\0\0\0\0\x02\0\0\0\0\0\0\0\x05\0\0\0\0\0\0\0\x03\0\0\0\0\0\0\0\0\0\0\0\0\0\0\0\0\0\0\0\0\0\0\0";
+    *b"\x01RVFCDIF\x02\0\0\0\x08\0\0\0\x05\0\0\0\0\0\0\0\x02\0\0\0\0\0\0\0\x05\0\0\0\0\0\0\0\x03\0\0\0\0\0\0\0\0\0\0\0\0\0\0\0\0\0\0\0\0\0\0\0";
 
 /// How many calls `fill` makes.
 pub const FILLING: u64 = 8;
@@ -64,13 +64,14 @@ fn show_bytes(files: &MemoryFiles, shown: &mut Shown) {
     for at in BYTES {
         shown.text("merge: byte ");
         shown.value(&at);
-        shown.show("", &byte_at(files, at));
+        shown.show("", &byte_at(files, "m1", at));
     }
 }
 
-fn byte_at(files: &MemoryFiles, at: usize) -> Option<u8> {
-    let base = files.find("m1")?;
-    base.get(at).copied()
+/// The byte of a file at this place.
+pub fn byte_at(files: &MemoryFiles, name: &str, at: usize) -> Option<u8> {
+    let file = files.find(name)?;
+    file.get(at).copied()
 }
 
 /// The files m1, m2 and m3 of a memory of eight pages.
@@ -98,8 +99,9 @@ pub fn merge(
     base: &str,
     diff: &str,
 ) -> Result<(End, MemorySink), AllocError> {
-    let words = words_of(
+    run(
         alloc,
+        files,
         &[
             "edit-memory",
             "rebase",
@@ -108,7 +110,16 @@ pub fn merge(
             "--diff-path",
             diff,
         ],
-    )?;
+    )
+}
+
+/// How the command of these words ends, and what it writes.
+pub fn run(
+    alloc: Global,
+    files: &mut MemoryFiles,
+    words: &[&str],
+) -> Result<(End, MemorySink), AllocError> {
+    let words = words_of(alloc, words)?;
     let mut out = MemorySink::new(alloc, 3, Failing::new(Vec::new(alloc)));
     let end = rebase_main(alloc, &words, files, &mut out);
     Ok((end, out))

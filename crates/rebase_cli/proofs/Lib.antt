@@ -1,3 +1,4 @@
 pub mod Lines
 mod Reading
 pub mod Stops
+pub mod Spares

@@ -1,5 +1,5 @@
 -- What the lines of a round and of the load ask for: each of 64 numbers is computed.
-<<<<<<< 717b8584
+<<<<<<< f4895c43
 use Rattle.std.proofs.Common.{◌≡◌, ◌≤◌, ◌+◌, ◌==◌, ℕ, zero, suc, Bool, true, false, ◌&&◌, not, nat_le, refl, ap, ◌∙◌, subst, sym, List, ◌++◌, length, codes, Result, Ok, Err, arith}
 =======
 use Rattle.std.proofs.Common.{◌≡◌, ◌≤◌, ◌+◌, ◌==◌, ℕ, zero, suc, Bool, true, false, ◌&&◌, not, nat_le, refl, ap, ◌∙◌, subst, sym, List, [], ◌∷◌, ◌++◌, length, codes, Result, Ok, Err, arith}
@@ -95,7 +95,7 @@ diff_of i (Ok (call.PutInterface interface)) is = absurd cc
 diff_of i (Ok (call.PatchInterface patch)) is = absurd cc
 diff_of i (Ok (call.PutMachineConfig machine)) is = absurd cc
 diff_of i (Ok (call.PatchMachineConfig patch)) is = absurd cc
-<<<<<<< 717b8584
+<<<<<<< f4895c43
 diff_of i (Ok (call.PutVsock vsock)) is = absurd cc
 diff_of i (Ok (call.PutBalloon balloon)) is = absurd cc
 diff_of i (Ok (call.PatchBalloon patch)) is = absurd cc
@@ -181,7 +181,7 @@ load_of i (Ok (call.PutInterface interface)) is = absurd cc
 load_of i (Ok (call.PatchInterface patch)) is = absurd cc
 load_of i (Ok (call.PutMachineConfig machine)) is = absurd cc
 load_of i (Ok (call.PatchMachineConfig patch)) is = absurd cc
-<<<<<<< 717b8584
+<<<<<<< f4895c43
 load_of i (Ok (call.PutVsock vsock)) is = absurd cc
 load_of i (Ok (call.PutBalloon balloon)) is = absurd cc
 load_of i (Ok (call.PatchBalloon patch)) is = absurd cc

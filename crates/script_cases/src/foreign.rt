@@ -65,7 +65,7 @@ const ROWS: [(&str, u64, [u8; 16]); 5] = [
     (
         "another version",
         HUGE,
-        *b"\x01RVFCSTA\x02\0\0\0\xe0\xff\xff\xff",
+        *b"\x01RVFCSTA\x03\0\0\0\xe0\xff\xff\xff",
     ),
     (
         "another length",

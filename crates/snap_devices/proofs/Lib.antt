@@ -14,7 +14,7 @@ pub mod Ports
 pub mod Reading
 pub mod RoundsFits
 pub mod RoundsNarrow
-<<<<<<< 717b8584
+<<<<<<< f4895c43
 pub mod VsockFits
 pub mod VsockNarrow
 =======

@@ -10,7 +10,7 @@ pub mod Rounds
 pub mod Places
 pub mod Balloons
 pub mod Nets
-<<<<<<< 717b8584
+<<<<<<< f4895c43
 pub mod Vsocks
 =======
 >>>>>>> m

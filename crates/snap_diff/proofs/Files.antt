@@ -1,6 +1,6 @@
 -- When bytes are the file of a diff.
 use Rattle.std.proofs.Common.{◌≡◌, ℕ, ◌+◌, ◌*◌, ◌≤◌, ◌==◌, ◌&&◌, Bool, true, false, cond, List, [], ◌∷◌, ◌++◌, length, drop, take, Option, Some, None}
-use Rattle.std.proofs.Common.{Result, Ok, Err, refl, sym, ap, subst, ◌∙◌, arith, append_assoc, length-append}
+use Rattle.std.proofs.Common.{Result, Ok, Err, refl, sym, ap, subst, ◌∙◌, append_assoc, arith, length-append}
 use Rattle.std.specs.Prelude.{IsTrue}
 use Rattle.std.specs.List.{AllByRecursion}
 use Rattle.std.proofs.lemmas.Bool.{and_parts, eq-eqb, eqb-true}
@@ -8,114 +8,212 @@ use Rattle.std.proofs.lemmas.List.{append-nil, drop_at, length-drop, length-take
 use Rattle.refusals.specs.declared.refusal.Refusal.{Refusal}
 use Rattle.refusals.specs.declared.refusal.Refusal.TheVariants as refusal
 use Rattle.file_format.specs.Format.{IsBytes}
+<<<<<<< f4895c43
+use Rattle.file_format.specs.Kinds.{raw, times}
+=======
 use Rattle.file_format.specs.Kinds.{fixed, number32, raw, times}
 use Rattle.file_format.specs.Laws.{all_same}
 use Rattle.file_format.specs.Readers.{put_all}
+>>>>>>> m
 use Rattle.file_format.specs.Starts.{is_closed, is_other}
-use Rattle.file_format.specs.Versions.{Version, version_of}
+use Rattle.file_format.specs.Versions.{version_of}
+use Rattle.file_format.specs.declared.version.Version.{Version}
 use Rattle.snap_diff.specs.declared.header.DiffHeader.{DiffHeader}
+<<<<<<< f4895c43
+use Rattle.snap_diff.specs.declared.header.DiffNames.{DiffNames}
+use Rattle.snap_diff.specs.declared.run.Run.{Run}
+use Rattle.snap_diff.specs.Copies.{DiffCopy, IsDiff}
+use Rattle.snap_diff.specs.Headers.{are_names, behind_gate, header, magic, names, names_of}
+use Rattle.snap_diff.specs.Runs.{are_runs, stored_in}
+use Rattle.snap_diff.specs.Diffs.{Begins, DiffParts, IsDiffFile, IsTable, are_stored, copy_of, entry, entry_size, is_table, is_valid, parts, size_behind, table_bytes, table_size}
+use Rattle.snap_diff.specs.Found.{diff_found, header_read, pages_read, rest_read, table_read}
+=======
 use Rattle.snap_diff.specs.Copies.{DiffCopy, IsDiff, rises}
 use Rattle.snap_diff.specs.Headers.{behind_gate, copy_with, header, header_of, is_header, magic}
 use Rattle.snap_diff.specs.Diffs.{Begins, IsDiffFile, IsTable, diff, diff_in, table_bytes}
 use Rattle.snap_diff.specs.Found.{diff_found, header_read, rest_read, table_read}
+>>>>>>> m
 use Rattle.snap_diff.proofs.Fronts as fronts
-use Rattle.snap_diff.proofs.Tables.{bytes_behind, bytes_front, size_of_table, table_only, table_reads}
+use Rattle.snap_diff.proofs.Tables.{IsFrom, bytes_behind, bytes_front, numbers_rise, runs_of_bytes, size_of_bytes, size_of_table, table_only, table_reads}
 
 -- the parts of a file
-pub bytes_of : (d : DiffCopy) → diff.bytes d ≡ header.bytes (header_of d) ++ (table_bytes d.numbers ++ d.bytes)
-unfolding diff times raw
-bytes_of d = refl
+pub bytes_of_parts : (p : DiffParts) → parts.bytes p ≡ header.bytes p.header ++ (table_bytes p.header.version p.runs ++ p.stored)
+unfolding parts times raw
+bytes_of_parts p = refl
 
--- its parts fit
-pub parts_fit : (d : DiffCopy) → diff.Fits d → header.Fits (header_of d) × (AllByRecursion number32.Fits d.numbers × (length d.bytes ≡ 4096 * length d.numbers))
-unfolding diff times raw
-parts_fit d fits = (fits.0, (fits.1.1.0.1, fits.1.1.1))
+-- a file that was opened: its gate, what stands between that and the pages, and the pages
+opened : (h : DiffHeader) (rest : List ℕ) → 1 ∷ drop 1 (header.bytes h ++ rest) ≡ header.bytes h ++ rest
+opened h rest =
+    let begins = fronts.begins_so h in
+    ap (λ (l : List ℕ). 1 ∷ drop 1 (l ++ rest)) begins.1 ∙ ap (λ (l : List ℕ). l ++ rest) (sym begins.1)
 
-pub fits_of : (h : DiffHeader) (numbers bytes : List ℕ) → header.Fits h → AllByRecursion number32.Fits numbers → length numbers ≡ h.count
-    → length bytes ≡ 4096 * h.count → diff.Fits (copy_with h (numbers, bytes))
-unfolding diff times raw
-fits_of h numbers bytes fits fit count size =
-    let same : h ≡ header_of (copy_with h (numbers, bytes)) = ap (λ (n : ℕ). record { pages = h.pages; parent = h.parent; identity = h.identity; count = n }) (sym count) in
-    (subst (λ (g : DiffHeader). header.Fits g) same fits, (refl, ((refl, fit), size ∙ ap (λ (n : ℕ). 4096 * n) (sym count))))
+pub opened_parts : (p : DiffParts) → 1 ∷ drop 1 (header.bytes p.header ++ table_bytes p.header.version p.runs) ++ p.stored ≡ parts.bytes p
+opened_parts p =
+    let table : List ℕ = table_bytes p.header.version p.runs in
+    ap (λ (l : List ℕ). l ++ p.stored) (opened p.header table)
+    ∙ append_assoc (header.bytes p.header) table p.stored
+    ∙ sym (bytes_of_parts p)
+
+-- they fit
+pub record Fit (p : DiffParts) : Type 0 where
+  pub head : header.Fits p.header
+  pub count : length p.runs ≡ p.header.count
+  pub fit : AllByRecursion (entry p.header.version).Fits p.runs
+  pub size : length p.stored ≡ 4096 * p.header.stored
+
+pub parts_fit : (p : DiffParts) → parts.Fits p → Fit p
+unfolding parts times raw
+parts_fit p fits = record { head = fits.0; count = fits.1.1.0.0; fit = fits.1.1.0.1; size = fits.1.1.1 }
+
+pub fits_of : (p : DiffParts) → Fit p → parts.Fits p
+unfolding parts times raw
+fits_of p f = (f.head, (refl, ((f.count, f.fit), f.size)))
+
+pub all_valid : (p : DiffParts) → IsTrue (are_names p.header.names) → IsTrue (is_table p.header p.runs)
+    → IsTrue (are_stored p.header.version p.header.stored p.stored) → IsTrue (is_valid p)
+all_valid p valid table stored =
+    ap (λ (b : Bool). b && is_table p.header p.runs && are_stored p.header.version p.header.stored p.stored) valid
+    ∙ ap (λ (b : Bool). b && are_stored p.header.version p.header.stored p.stored) table ∙ stored
 
 -- a file is its header, table and pages
-pub made : (given : List ℕ) (h : DiffHeader) (numbers bytes : List ℕ) → header.Fits h → IsTrue (is_header h) → AllByRecursion number32.Fits numbers
-    → length numbers ≡ h.count → length bytes ≡ 4096 * h.count → rises h.pages 0 numbers ≡ true
-    → given ≡ header.bytes h ++ (table_bytes numbers ++ bytes) → IsDiffFile given (copy_with h (numbers, bytes))
-made given h numbers bytes fits valid fit count size rise is =
-    let same : h ≡ header_of (copy_with h (numbers, bytes)) = ap (λ (n : ℕ). record { pages = h.pages; parent = h.parent; identity = h.identity; count = n }) (sym count) in
-    record {
-      fits = fits_of h numbers bytes fits fit count size;
-      valid = ap (λ (b : Bool). b && rises h.pages 0 numbers) valid ∙ rise;
-      bytes = is ∙ ap (λ (g : DiffHeader). header.bytes g ++ (table_bytes numbers ++ bytes)) same ∙ sym (bytes_of (copy_with h (numbers, bytes)));
-    }
+pub made : (given : List ℕ) (p : DiffParts) → Fit p → IsTrue (are_names p.header.names) → IsTrue (is_table p.header p.runs)
+    → IsTrue (are_stored p.header.version p.header.stored p.stored)
+    → given ≡ header.bytes p.header ++ (table_bytes p.header.version p.runs ++ p.stored) → IsDiffFile given (copy_of p)
+made given p fit valid table stored is = record {
+  parts_of = p;
+  fits = fits_of p fit;
+  valid = all_valid p valid table stored;
+  bytes = is ∙ sym (bytes_of_parts p);
+  copy = refl;
+}
+
+from_zero : (runs : List Run) → IsFrom 0 runs
+from_zero [] = tt
+from_zero (r ∷ runs) = omega arith
+
+-- the rules of parts
+module _ (p : DiffParts) (fit : Fit p) (valid : is_valid p ≡ true) where
+  both : ((are_names p.header.names && is_table p.header p.runs) ≡ true) × (are_stored p.header.version p.header.stored p.stored ≡ true)
+  both = and_parts (are_names p.header.names && is_table p.header p.runs) (are_stored p.header.version p.header.stored p.stored) valid
+
+  pub header_good : are_names p.header.names ≡ true
+  header_good = (and_parts (are_names p.header.names) (is_table p.header p.runs) both.0).0
+
+  pub table_good : is_table p.header p.runs ≡ true
+  table_good = (and_parts (are_names p.header.names) (is_table p.header p.runs) both.0).1
+
+  pub stored_good : are_stored p.header.version p.header.stored p.stored ≡ true
+  stored_good = both.1
+
+  pub runs_good : are_runs p.header.version p.header.names.pages p.runs ≡ true
+  runs_good = (and_parts (are_runs p.header.version p.header.names.pages p.runs) (stored_in p.runs == p.header.stored) table_good).0
+
+  pub many_stored : stored_in p.runs ≡ p.header.stored
+  many_stored = eqb-true (stored_in p.runs) p.header.stored (and_parts (are_runs p.header.version p.header.names.pages p.runs) (stored_in p.runs == p.header.stored) table_good).1
+
+  pub copy_whole : IsDiff (copy_of p)
+  copy_whole = record {
+    rise = numbers_rise p.header.version p.header.names.pages 0 p.runs runs_good (from_zero p.runs);
+    size = size_of_bytes p.runs p.stored (ap (λ (n : ℕ). 4096 * n) many_stored ∙ sym fit.size);
+  }
+
+names_in : (g : DiffHeader) → header.Fits g → names.Fits g.names
+unfolding header behind_gate
+names_in g fits = fits.1.0.1.1
 
 module _ (given : List ℕ) (d : DiffCopy) (is : IsDiffFile given d) where
-  tests : (is_header (header_of d) ≡ true) × (rises d.pages 0 d.numbers ≡ true)
-  tests = and_parts (is_header (header_of d)) (rises d.pages 0 d.numbers) is.valid
+  abbrev p : DiffParts
+  p = is.parts_of
 
-  pub begins : Begins given (header_of d)
+  abbrev h : DiffHeader
+  h = is.parts_of.header
+
+  fit : Fit p
+  fit = parts_fit p is.fits
+
+  shape : given ≡ header.bytes h ++ (table_bytes h.version p.runs ++ p.stored)
+  shape = is.bytes ∙ bytes_of_parts p
+
+  pub begins : Begins given h
   begins = record {
-    fits = (parts_fit d is.fits).0;
-    valid = tests.0;
-    behind = table_bytes d.numbers ++ d.bytes;
-    bytes = is.bytes ∙ bytes_of d;
+    fits = fit.head;
+    valid = header_good p fit is.valid;
+    behind = table_bytes h.version p.runs ++ p.stored;
+    bytes = shape;
   }
 
   pub whole : IsDiff d
-  whole = record { rise = tests.1; size = (parts_fit d is.fits).1.1 }
+  whole = subst IsDiff (sym is.copy) (copy_whole p fit is.valid)
 
-  pub size_of_file : length given ≡ 64 + 4100 * length d.numbers
-  size_of_file = omega (arith, ap length (is.bytes ∙ bytes_of d), length-append (header.bytes (header_of d)) (table_bytes d.numbers ++ d.bytes), fronts.length-header (header_of d), length-append (table_bytes d.numbers) d.bytes, size_of_table d.numbers, whole.size)
+  of_names : h.names ≡ names_of d
+  of_names = ap names_of (sym is.copy)
 
-  pub table_is : IsTable (take (4 * length d.numbers) (drop 64 given)) d.numbers
-  table_is =
-      let head : List ℕ = header.bytes (header_of d) in
-      let table : List ℕ = table_bytes d.numbers in
-      let rest : drop 64 given ≡ table ++ d.bytes =
-      ap (drop 64) (is.bytes ∙ bytes_of d) ∙ drop_at head (table ++ d.bytes) 64 (fronts.length-header (header_of d)) in
-      record {
-        fit = (parts_fit d is.fits).1.0;
-        bytes = ap (take (4 * length d.numbers)) rest ∙ take_at table d.bytes (4 * length d.numbers) (size_of_table d.numbers);
-      }
+  pub names_good : are_names (names_of d) ≡ true
+  names_good = subst (λ (n : DiffNames). are_names n ≡ true) of_names (header_good p fit is.valid)
 
-  rest_is : drop 64 given ≡ table_bytes d.numbers ++ d.bytes
-  rest_is = ap (drop 64) (is.bytes ∙ bytes_of d) ∙ drop_at (header.bytes (header_of d)) (table_bytes d.numbers ++ d.bytes) 64 (fronts.length-header (header_of d))
+  pub names_fit : names.Fits (names_of d)
+  names_fit = subst (λ (n : DiffNames). names.Fits n) of_names (names_in h fit.head)
 
-  rest_again : rest_read (header_of d) (table_bytes d.numbers ++ d.bytes) ≡ Ok d
+  table_long : length (table_bytes h.version p.runs) ≡ table_size h
+  table_long = size_of_table h.version p.runs ∙ ap (λ (n : ℕ). entry_size h.version * n) fit.count
+
+  rest_is : drop 64 given ≡ table_bytes h.version p.runs ++ p.stored
+  rest_is = ap (drop 64) shape ∙ drop_at (header.bytes h) (table_bytes h.version p.runs ++ p.stored) 64 (fronts.length-header h)
+
+  rest_long : length (table_bytes h.version p.runs ++ p.stored) ≡ size_behind h
+  rest_long = omega (arith, length-append (table_bytes h.version p.runs) p.stored, table_long, fit.size)
+
+  pub stored_size : 4096 * stored_in p.runs ≡ length p.stored
+  stored_size = ap (λ (n : ℕ). 4096 * n) (many_stored p fit is.valid) ∙ sym fit.size
+
+  pub size_of_file : length given ≡ 64 + size_behind h
+  size_of_file = omega (arith, ap length shape, length-append (header.bytes h) (table_bytes h.version p.runs ++ p.stored), fronts.length-header h, rest_long)
+
+  pub table_is : IsTable h (take (table_size h) (drop 64 given)) p.runs
+  table_is = record {
+    count = fit.count;
+    fit = fit.fit;
+    bytes = ap (take (table_size h)) rest_is ∙ take_at (table_bytes h.version p.runs) p.stored (table_size h) table_long;
+    valid = table_good p fit is.valid;
+  }
+
+  pub stored_is : drop (table_size h) (drop 64 given) ≡ p.stored
+  stored_is = ap (drop (table_size h)) rest_is ∙ drop_at (table_bytes h.version p.runs) p.stored (table_size h) table_long
+
+  -- where the file is of bytes, so is the diff
+  pub copy_of_bytes : IsBytes given → IsBytes d.bytes
+  copy_of_bytes bytes =
+      subst (λ (c : DiffCopy). IsBytes c.bytes) (sym is.copy)
+      (runs_of_bytes p.runs p.stored (subst IsBytes stored_is (bytes_behind (table_size h) (drop 64 given) (bytes_behind 64 given bytes))))
+
+  rest_again : rest_read h (drop 64 given) ≡ Ok d
   rest_again =
-      let count : ℕ = length d.numbers in
-      let size : length (table_bytes d.numbers ++ d.bytes) ≡ 4100 * count = omega (arith, length-append (table_bytes d.numbers) d.bytes, size_of_table d.numbers, whole.size) in
-      ap (λ (b : Bool). cond b (table_read (header_of d) (drop (4 * count) (table_bytes d.numbers ++ d.bytes)) ((times count number32).reads (take (4 * count) (table_bytes d.numbers ++ d.bytes)))) (Err refusal.BadField))
-      (eq-eqb _ _ size)
-      ∙ ap (λ (l : List ℕ). table_read (header_of d) l ((times count number32).reads (take (4 * count) (table_bytes d.numbers ++ d.bytes)))) (drop_at (table_bytes d.numbers) d.bytes (4 * count) (size_of_table d.numbers))
-      ∙ ap (λ (l : List ℕ). table_read (header_of d) d.bytes ((times count number32).reads l)) (take_at (table_bytes d.numbers) d.bytes (4 * count) (size_of_table d.numbers))
-      ∙ ap (table_read (header_of d) d.bytes) (table_reads d.numbers count (parts_fit d is.fits).1.0 refl)
-      ∙ ap (λ (b : Bool). cond b (Ok d) (Err refusal.BadField)) tests.1
+      let rest : List ℕ = drop 64 given in
+      let table : List ℕ = take (table_size h) rest in
+      let pages : List ℕ = drop (table_size h) rest in
+      let size : length rest ≡ size_behind h = ap length rest_is ∙ rest_long in
+      ap (λ (b : Bool). cond b (table_read h pages ((times h.count (entry h.version)).reads table)) (Err refusal.BadField)) (eq-eqb _ _ size)
+      ∙ ap (λ (l : List ℕ). table_read h pages ((times h.count (entry h.version)).reads l)) table_is.bytes
+      ∙ ap (table_read h pages) (table_reads h.version p.runs h.count fit.fit fit.count)
+      ∙ ap (λ (b : Bool). cond b (pages_read h p.runs pages) (Err refusal.BadField)) table_is.valid
+      ∙ ap (pages_read h p.runs) stored_is
+      ∙ ap (λ (b : Bool). cond b (Ok (copy_of p)) (Err refusal.BadField)) (stored_good p fit is.valid)
+      ∙ ap (λ (c : DiffCopy). Ok c) (sym is.copy)
 
-  begins_front : Begins (take 64 given) (header_of d)
-  begins_front =
-      let head : List ℕ = header.bytes (header_of d) in
-      record {
-        fits = begins.fits;
-        valid = begins.valid;
-        behind = [];
-        bytes = ap (take 64) (is.bytes ∙ bytes_of d) ∙ take_at head (table_bytes d.numbers ++ d.bytes) 64 (fronts.length-header (header_of d)) ∙ sym (append-nil head);
-      }
+  begins_front : Begins (take 64 given) h
+  begins_front = record {
+    fits = fit.head;
+    valid = begins.valid;
+    behind = [];
+    bytes = ap (take 64) shape ∙ take_at (header.bytes h) (table_bytes h.version p.runs ++ p.stored) 64 (fronts.length-header h) ∙ sym (append-nil (header.bytes h));
+  }
 
   pub found_again : diff_found (Some given) ≡ Ok d
-  found_again =
-      fronts.front_read (take 64 given) (drop 64 given) (header_of d) begins_front
-      ∙ ap (rest_read (header_of d)) rest_is
-      ∙ rest_again
+  found_again = fronts.front_read (take 64 given) (drop 64 given) h begins_front ∙ rest_again
 
 pub one : (given : List ℕ) (c d : DiffCopy) → IsDiffFile given c → IsDiffFile given d → c ≡ d
 one given c d a b =
     let same : ◌≡◌ {A = Result DiffCopy Refusal} (Ok c) (Ok d) = sym (found_again given c a) ∙ found_again given d b in cc
-
-pub one_file : (given other : List ℕ) (d : DiffCopy) → IsDiffFile given d → IsDiffFile other d → version_of given ≡ version_of other
-    → given ≡ other
-one_file given other d a b same = a.bytes ∙ ap (λ (v : Version). (diff_in v).bytes d) same ∙ sym b.bytes
 
 -- ---- what is found is a diff
 
@@ -132,49 +230,63 @@ none_left [] is = refl
 none_left (b ∷ bs) is = absurd (omega (arith, is))
 
 -- all of a front that was read
-whole_front : (h : DiffHeader) (front rest : List ℕ) → length front ≤ 64 → front ≡ header.bytes h ++ rest → front ≡ header.bytes h
+pub whole_front : (h : DiffHeader) (front rest : List ℕ) → length front ≤ 64 → front ≡ header.bytes h ++ rest → front ≡ header.bytes h
 whole_front h front rest size is =
     let none : rest ≡ [] = none_left rest (omega (arith, size, ap length is, length-append (header.bytes h) rest, fronts.length-header h)) in
     is ∙ ap (λ (l : List ℕ). header.bytes h ++ l) none ∙ append-nil (header.bytes h)
 
-table_good : (given : List ℕ) (h : DiffHeader) (d : DiffCopy) (numbers left : List ℕ) → IsBytes (take (4 * h.count) (drop 64 given)) → header.Fits h → is_header h ≡ true
-    → take 64 given ≡ header.bytes h → length (drop 64 given) ≡ 4100 * h.count
-    → (times h.count number32).reads (take (4 * h.count) (drop 64 given)) ≡ Some (numbers, left)
-    → table_read h (drop (4 * h.count) (drop 64 given)) (Some (numbers, left)) ≡ Ok d → IsDiffFile given d
-table_good given h d numbers left bytes fits valid front size read is =
-    let rest : List ℕ = drop 64 given in
-    let table : List ℕ = take (4 * h.count) rest in
-    let pages : List ℕ = drop (4 * h.count) rest in
-    let good = accepted (rises h.pages 0 numbers) refusal.BadField (Ok (copy_with h (numbers, pages))) d is in
-    let same : copy_with h (numbers, pages) ≡ d = (let e : ◌≡◌ {A = Result DiffCopy Refusal} (Ok (copy_with h (numbers, pages))) (Ok d) = good.1 in cc) in
-    let takes = table_only h.count table numbers left bytes read in
-    let count : length numbers ≡ h.count = takes.0 in
-    let table_size : length table ≡ 4 * h.count = length-take-le (4 * h.count) rest (omega (arith, size)) in
-    let none : left ≡ [] = none_left left (omega (arith, table_size, ap length takes.1.1, length-append (table_bytes numbers) left, size_of_table numbers, count)) in
-    let table_is : table ≡ table_bytes numbers = takes.1.1 ∙ ap (λ (l : List ℕ). table_bytes numbers ++ l) none ∙ append-nil (table_bytes numbers) in
-    let all : given ≡ header.bytes h ++ (table_bytes numbers ++ pages) =
-    sym (take-append-drop 64 given)
-    ∙ ap (λ (l : List ℕ). l ++ rest) front
-    ∙ ap (λ (l : List ℕ). header.bytes h ++ l) (sym (take-append-drop (4 * h.count) rest) ∙ ap (λ (l : List ℕ). l ++ pages) table_is) in
-    subst (λ (e : DiffCopy). IsDiffFile given e) same
-    (made given h numbers pages fits valid takes.1.0 count (omega (arith, size, length-drop (4 * h.count) rest)) good.0 all)
+-- a table that was read to its end
+pub whole_table : (v : Version) (runs : List Run) (table left : List ℕ) (count : ℕ) → length table ≡ entry_size v * count → length runs ≡ count
+    → table ≡ table_bytes v runs ++ left → table ≡ table_bytes v runs
+whole_table v runs table left count size many is =
+    let long = size_of_table v runs ∙ ap (λ (n : ℕ). entry_size v * n) many in
+    let none : left ≡ [] = none_left left (omega (arith, size, ap length is, length-append (table_bytes v runs) left, long)) in
+    is ∙ ap (λ (l : List ℕ). table_bytes v runs ++ l) none ∙ append-nil (table_bytes v runs)
 
-table_found : (given : List ℕ) (h : DiffHeader) (d : DiffCopy) (o : Option (List ℕ × List ℕ)) → IsBytes (take (4 * h.count) (drop 64 given)) → header.Fits h → is_header h ≡ true
-    → take 64 given ≡ header.bytes h → length (drop 64 given) ≡ 4100 * h.count
-    → (times h.count number32).reads (take (4 * h.count) (drop 64 given)) ≡ o
-    → table_read h (drop (4 * h.count) (drop 64 given)) o ≡ Ok d → IsDiffFile given d
-table_found given h d None bytes fits valid front size read is = absurd cc
-table_found given h d (Some (numbers, left)) bytes fits valid front size read is = table_good given h d numbers left bytes fits valid front size read is
+module _ (given : List ℕ) (h : DiffHeader) (d : DiffCopy) (fits : header.Fits h) (valid : are_names h.names ≡ true) (front : take 64 given ≡ header.bytes h)
+    (size : length (drop 64 given) ≡ size_behind h) where
+  abbrev rest : List ℕ
+  rest = drop 64 given
+
+  abbrev table : List ℕ
+  table = take (table_size h) (drop 64 given)
+
+  abbrev pages : List ℕ
+  pages = drop (table_size h) (drop 64 given)
+
+  runs_found : (runs : List Run) (left : List ℕ) → IsBytes table → (times h.count (entry h.version)).reads table ≡ Some (runs, left)
+      → table_read h pages (Some (runs, left)) ≡ Ok d → IsDiffFile given d
+  runs_found runs left bytes read is =
+      let found : DiffParts = record { header = h; runs = runs; stored = pages } in
+      let good = accepted (is_table h runs) refusal.BadField (pages_read h runs pages) d is in
+      let full = accepted (are_stored h.version h.stored pages) refusal.BadField (Ok (copy_of found)) d good.1 in
+      let same : copy_of found ≡ d = (let e : ◌≡◌ {A = Result DiffCopy Refusal} (Ok (copy_of found)) (Ok d) = full.1 in cc) in
+      let takes = table_only h.version h.count table left runs bytes read in
+      let long : length table ≡ table_size h = length-take-le (table_size h) rest (omega (arith, size)) in
+      let all : table ≡ table_bytes h.version runs = whole_table h.version runs table left h.count long takes.0 takes.1.1 in
+      let fit : Fit found = record { head = fits; count = takes.0; fit = takes.1.0; size = omega (arith, size, length-drop (table_size h) rest) } in
+      subst (λ (e : DiffCopy). IsDiffFile given e) same
+      (made given found fit valid good.0 full.0 (
+      sym (take-append-drop 64 given)
+      ∙ ap (λ (l : List ℕ). l ++ rest) front
+      ∙ ap (λ (l : List ℕ). header.bytes h ++ l) (sym (take-append-drop (table_size h) rest) ∙ ap (λ (l : List ℕ). l ++ pages) all)
+      ))
+
+  table_found : (o : Option (List Run × List ℕ)) → IsBytes table → (times h.count (entry h.version)).reads table ≡ o
+      → table_read h pages o ≡ Ok d → IsDiffFile given d
+  table_found None bytes read is = absurd cc
+  table_found (Some (runs, left)) bytes read is = runs_found runs left bytes read is
 
 header_found : (given : List ℕ) (d : DiffCopy) (o : Option (DiffHeader × List ℕ)) → IsBytes given → header.reads (take 64 given) ≡ o → header_read (drop 64 given) o ≡ Ok d → IsDiffFile given d
 header_found given d None bytes read is = absurd cc
 header_found given d (Some (h, left)) bytes read is =
-    let front_bytes = bytes_front 64 given bytes in
-    let takes = header.only (take 64 given) h left front_bytes read in
+    let rest : List ℕ = drop 64 given in
+    let takes = header.only (take 64 given) h left (bytes_front 64 given bytes) read in
     let front : take 64 given ≡ header.bytes h = whole_front h (take 64 given) left (omega (arith, length-take 64 given)) takes.1 in
-    let valid = accepted (is_header h) refusal.BadField (rest_read h (drop 64 given)) d is in
-    let size = accepted (length (drop 64 given) == 4100 * h.count) refusal.BadField (table_read h (drop (4 * h.count) (drop 64 given)) ((times h.count number32).reads (take (4 * h.count) (drop 64 given)))) d valid.1 in
-    table_found given h d ((times h.count number32).reads (take (4 * h.count) (drop 64 given))) (bytes_front (4 * h.count) (drop 64 given) (bytes_behind 64 given bytes)) takes.0 valid.0 front (eqb-true _ _ size.0) refl size.1
+    let valid = accepted (are_names h.names) refusal.BadField (rest_read h rest) d is in
+    let reads : Option (List Run × List ℕ) = (times h.count (entry h.version)).reads (take (table_size h) rest) in
+    let size = accepted (length rest == size_behind h) refusal.BadField (table_read h (drop (table_size h) rest) reads) d valid.1 in
+    table_found given h d takes.0 valid.0 front (eqb-true _ _ size.0) reads (bytes_front (table_size h) rest (bytes_behind 64 given bytes)) refl size.1
 
 pub found_good : (given : List ℕ) (d : DiffCopy) → IsBytes given → diff_found (Some given) ≡ Ok d → IsDiffFile given d
 found_good given d bytes is =
@@ -182,6 +294,8 @@ found_good given d bytes is =
     let opened = no_refusal (is_closed 64 (take 64 given)) refusal.GateClosed (cond (is_other (magic (version_of (take 64 given))) (take 64 given)) (Err refusal.WrongMagic) rest) d is in
     let known = no_refusal (is_other (magic (version_of (take 64 given))) (take 64 given)) refusal.WrongMagic rest d opened.1 in
     header_found given d (header.reads (take 64 given)) bytes refl known.1
+<<<<<<< f4895c43
+=======
 
 -- ---- the start of a file
 
@@ -210,3 +324,4 @@ pub start_then : (h : DiffHeader) (numbers file pages : List ℕ) → header.Fit
 start_then h numbers file pages fits valid fit count rise is size =
     made (file ++ pages) h numbers pages fits valid fit count size rise
     (ap (λ (l : List ℕ). l ++ pages) is ∙ append_assoc (header.bytes h) (table_bytes numbers) pages)
+>>>>>>> m

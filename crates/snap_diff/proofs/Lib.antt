@@ -3,3 +3,10 @@ pub mod Overlays
 pub mod Tables
 pub mod Fronts
 pub mod Files
+pub mod Starts
+pub mod Judging
+pub mod Filled
+pub mod Again
+pub mod Written
+pub mod Loops
+pub mod Shorter

@@ -1,37 +1,38 @@
 -- What a file is found to be as a diff, or the first refusal that fits. Each part is judged by its own bytes.
-use Rattle.std.specs.Prelude.{ℕ, ◌+◌, ◌*◌, ◌==◌, if◌then◌else◌, List, length, take, drop, Option, Some, None, Result, Ok, Err}
+use Rattle.std.specs.Prelude.{ℕ, ◌==◌, if◌then◌else◌, List, length, take, drop, Option, Some, None, Result, Ok, Err}
 use Rattle.refusals.specs.declared.refusal.Refusal.{Refusal}
 use Rattle.refusals.specs.declared.refusal.Refusal.TheVariants as refusal
-use Rattle.file_format.specs.Kinds.{number32, times}
+use Rattle.file_format.specs.Kinds.{times}
 use Rattle.file_format.specs.Starts.{is_closed, is_other}
-use Rattle.file_format.specs.Versions.{Version, version_of}
-use Rattle.file_format.specs.Versions.Version.{One}
-use Rattle.guest_memory.specs.Ram.{page_size}
+use Rattle.file_format.specs.Versions.{version_of}
 use Rattle.snap_diff.specs.declared.header.DiffHeader.{DiffHeader}
-use Rattle.snap_diff.specs.Copies.{DiffCopy, rises}
-use Rattle.snap_diff.specs.Headers.{copy_with, header, is_header, magic}
+use Rattle.snap_diff.specs.declared.run.Run.{Run}
+use Rattle.snap_diff.specs.Copies.{DiffCopy}
+use Rattle.snap_diff.specs.Headers.{are_names, header, magic}
+use Rattle.snap_diff.specs.Diffs.{are_stored, copy_of, entry, is_table, size_behind, table_size}
 
--- the table that was read, before these pages: its numbers rise
-abbrev pub table_read : DiffHeader → List ℕ → Option (List ℕ × List ℕ) → Result DiffCopy Refusal
-table_read h pages None = Err refusal.BadField
-table_read h pages (Some read) =
-    if rises h.pages 0 read.0 then Ok (copy_with h (read.0, pages)) else Err refusal.BadField
+-- the stored pages, behind runs that are a table
+abbrev pub pages_read : DiffHeader → List Run → List ℕ → Result DiffCopy Refusal
+pages_read h runs stored =
+    if are_stored h.version h.stored stored then Ok (copy_of (record { header = h; runs = runs; stored = stored }))
+    else Err refusal.BadField
 
--- behind the header are as many numbers and pages as it says, and no more
+-- the table that was read, before these pages
+abbrev pub table_read : DiffHeader → List ℕ → Option (List Run × List ℕ) → Result DiffCopy Refusal
+table_read h stored None = Err refusal.BadField
+table_read h stored (Some read) = if is_table h read.0 then pages_read h read.0 stored else Err refusal.BadField
+
+-- behind the header are as many entries and pages as it says, and no more
 abbrev pub rest_read : DiffHeader → List ℕ → Result DiffCopy Refusal
 rest_read h rest =
-    if length rest == (4 + page_size) * h.count
-    then table_read h (drop (4 * h.count) rest) ((times h.count number32).reads (take (4 * h.count) rest))
+    if length rest == size_behind h
+    then table_read h (drop (table_size h) rest) ((times h.count (entry h.version)).reads (take (table_size h) rest))
     else Err refusal.BadField
 
 -- the header that was read, before the rest
 abbrev pub header_read : List ℕ → Option (DiffHeader × List ℕ) → Result DiffCopy Refusal
 header_read rest None = Err refusal.BadField
-header_read rest (Some read) = if is_header read.0 then rest_read read.0 rest else Err refusal.BadField
-
--- a front and the rest, by the version
-abbrev pub read_by : Version → List ℕ → List ℕ → Result DiffCopy Refusal
-read_by One front rest = header_read rest (header.reads front)
+header_read rest (Some read) = if are_names read.0.names then rest_read read.0 rest else Err refusal.BadField
 
 -- by its first 64 bytes, and the rest: shorter than its header, or its gate is closed; of another kind or version; no
 -- diff has these bytes
@@ -39,7 +40,7 @@ abbrev pub diff_front : List ℕ → List ℕ → Result DiffCopy Refusal
 diff_front front rest =
     if is_closed 64 front then Err refusal.GateClosed
     else (if is_other (magic (version_of front)) front then Err refusal.WrongMagic
-    else read_by (version_of front) front rest)
+    else header_read rest (header.reads front))
 
 abbrev pub diff_found : Option (List ℕ) → Result DiffCopy Refusal
 diff_found None = Err refusal.NoSuchFile

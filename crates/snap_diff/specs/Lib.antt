@@ -1,4 +1,5 @@
 pub mod Copies
+pub mod Runs
 pub mod Headers
 pub mod Diffs
 pub mod Found

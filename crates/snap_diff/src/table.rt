@@ -1,38 +1,58 @@
-// The table of page numbers.
-ghost use Rattle.std.specs.Prelude.{◌≡◌, ◌≤◌, ◌+◌, ◌*◌, List, ℕ, Some, length, slice_get};
-ghost use Rattle.snap_diff.specs.Copies.{rises};
-ghost use Rattle.snap_diff.specs.Diffs.{IsTable, judged};
+// The table behind a header.
+ghost use Rattle.std.specs.Prelude.{◌≡◌, ◌≤◌, ◌==◌, ◌&&◌, IsTrue, length};
+ghost use Rattle.snap_diff.specs.Diffs.{TableFound, is_table};
+ghost use Rattle.snap_diff.specs.Runs.{numbers_of};
 
-use file_format::DecodeError;
+use crate::header::DiffHeader;
+use crate::run::{Run, are_runs, read_entries, stored_in};
+use file_format::{Input, Items, ReadError};
+use std::alloc::Global;
 
-/// Judges a table, four bytes a number: each is that of a page of a memory of so many, and they rise strictly; else
-/// `BadField`.
-pub fn check_table(table: &[u8], pages: u32) -> Result<(), DecodeError>
-    ensures { (numbers : List ℕ) → IsTable table.now numbers → result ≡ judged (rises pages 0 numbers) }
+fn is_table(header: &DiffHeader, runs: &[Run]) -> bool
+    ensures { result ≡ is_table header.now runs.now }
 {
-    let mut low = 0;
-    for i in 0..table.len() / 4 {
-        let number = number_at(table, i);
-        if (number as u64) < low || pages <= number {
-            return Err(DecodeError::BadField);
-        }
-        low = number as u64 + 1;
+    are_runs(header.version, header.names.pages, runs) && stored_in(runs) == header.stored as u128
+}
+
+// Nothing is left behind the table.
+fn is_whole(header: &DiffHeader, runs: &[Run], left: usize) -> bool
+    ensures { result ≡ ((left == 0) && is_table header.now runs.now) }
+{
+    left == 0 && is_table(header, runs)
+}
+
+/// The runs that these bytes are the table of, behind this header.
+///
+/// `Bad` where they are the table of none.
+pub fn read_table(alloc: Global, header: &DiffHeader, table: &[u8]) -> Result<Items<Run>, ReadError>
+    ensures { TableFound header.now table.now result }
+{
+    let mut input = Input::new(table);
+    let runs = read_entries(alloc, header.version, header.count, &mut input)?;
+    if is_whole(header, runs.as_slice(), input.len()) {
+        Ok(runs)
+    } else {
+        Err(ReadError::Bad)
     }
-    Ok(())
 }
 
-/// The page number at this place of a table, counted from 0.
-pub fn table_page(table: &[u8], i: u32) -> u32
-    requires { 4 * i + 4 ≤ length table.now }
-    ensures { (numbers : List ℕ) → IsTable table.now numbers → slice_get numbers i ≡ Some result }
+/// How many pages the runs of a table have.
+#[tactic(auto, using(crate::proofs::Loops::many_fit))]
+pub fn count_pages(header: &DiffHeader, runs: &[Run]) -> u32
+    requires { IsTrue (is_table header.now runs.now) }
+    ensures { result ≡ length (numbers_of runs.now) }
 {
-    number_at(table, i as usize)
+    count_in(runs, header.names.pages)
 }
 
-fn number_at(table: &[u8], i: usize) -> u32
-    requires { 4 * i + 4 ≤ length table.now }
-    ensures { (numbers : List ℕ) → IsTable table.now numbers → slice_get numbers i ≡ Some result }
+#[tactic(auto, using(crate::proofs::Loops::many_end))]
+fn count_in(runs: &[Run], most: u32) -> u32
+    requires { length (numbers_of runs.now) ≤ most }
+    ensures { result ≡ length (numbers_of runs.now) }
 {
-    let at = 4 * i;
-    u32::from_le_bytes([table[at], table[at + 1], table[at + 2], table[at + 3]])
+    let mut pages = 0;
+    for run in runs {
+        pages += run.length;
+    }
+    pages
 }

@@ -11,7 +11,9 @@ use Rattle.refusals.specs.declared.refusal.Refusal.TheVariants as refusal
 use Rattle.file_format.specs.Kinds.{number32, ◌&◌}
 use Rattle.file_format.specs.Identities.{identity}
 use Rattle.file_format.specs.Starts.{is_closed, is_other}
-use Rattle.file_format.specs.Versions.{Version, version_of}
+use Rattle.file_format.specs.Versions.{version_bytes, version_of}
+use Rattle.file_format.specs.declared.version.Version.{Version}
+use Rattle.file_format.specs.declared.version.Version.TheVariants.{One, Two}
 use Rattle.snap_state.specs.declared.copy.StateCopy.{StateCopy}
 use Rattle.snap_state.specs.Copies.{state_copy}
 use Rattle.snap_state.specs.Files as state
@@ -49,10 +51,16 @@ front_first (b ∷ rest) = refl
 front_closed : (given : List ℕ) → is_closed 32 (take 32 given) ≡ is_closed 32 given
 front_closed given = rw (front_short given, front_first given) refl
 
+front_version : (given : List ℕ) → version_of (take 32 given) ≡ version_of given
+front_version given =
+    ap (λ (l : List ℕ). if bytes_eq l (version_bytes Two) then Two else One)
+    (ap (take 4) (drop-take 8 24 given) ∙ take_less 4 24 (drop 8 given) (omega arith))
+
 front_other : (given : List ℕ)
     → is_other (state.magic (version_of (take 32 given))) (take 32 given) ≡ is_other (state.magic (version_of given)) given
 front_other given =
-    ap (λ (l : List ℕ). not (bytes_eq l (state.magic (version_of given))))
+    ap (λ (v : Version). is_other (state.magic v) (take 32 given)) (front_version given)
+    ∙ ap (λ (l : List ℕ). not (bytes_eq l (state.magic (version_of given))))
     (ap (take 11) (drop-take 1 31 given) ∙ take_less 11 31 (drop 1 given) (omega arith))
 
 front_said : (given : List ℕ) → said_length (take 32 given) ≡ said_length given

@@ -6,11 +6,19 @@ ghost use Rattle.snap_finding.specs.Finding.{Answers, FindCause, nothing_of, ref
 ghost use Rattle.snap_finding.specs.Finding.{said_length, size_judged, size_of, state_of};
 
 use crate::finding::FindError;
+<<<<<<< f4895c43
+use file_format::{DecodeError, is_closed, is_other, version_of};
+use guest_memory::PAGE_SIZE;
+use refusals::Refusal;
+use snap_memory::MemHeader;
+use snap_state::{STATE_HEADER, Saved, decode, state_magic};
+=======
 use file_format::{DecodeError, is_closed, is_other};
 use guest_memory::PAGE_SIZE;
 use refusals::Refusal;
 use snap_memory::MemHeader;
 use snap_state::{STATE_HEADER, STATE_MAGIC, Saved, decode};
+>>>>>>> m
 use std::alloc::Global;
 use vm_types::Identity;
 
@@ -44,7 +52,7 @@ pub fn judge_start(size: u64, front: &[u8]) -> Result<u64, FindError>
     if is_closed(front, STATE_HEADER) {
         return Err(FindError::Refused(Refusal::GateClosed));
     }
-    if is_other(front, &STATE_MAGIC) {
+    if is_other(front, &state_magic(version_of(front))) {
         return Err(FindError::Refused(Refusal::WrongMagic));
     }
     if size != said_length(front) as u64 + STATE_HEADER as u64 || MOST_BYTES < size {

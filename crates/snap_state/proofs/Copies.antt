@@ -9,7 +9,9 @@ use Rattle.file_format.specs.Kinds.{number32, number64}
 use Rattle.file_format.specs.Identities.{identity, is_numbered}
 use Rattle.file_format.specs.Reading.{Takes}
 use Rattle.file_format.specs.Starts.{is_closed, is_other}
-use Rattle.file_format.specs.Versions.{Version, current_version, version_of}
+use Rattle.file_format.specs.Versions.{current_version, version_of}
+use Rattle.file_format.specs.declared.version.Version.{Version}
+use Rattle.file_format.specs.declared.version.Version.TheVariants.{One, Two}
 use Rattle.file_format.specs.declared.error.ReadError.{ReadError}
 use Rattle.file_format.specs.declared.error.ReadError.TheVariants.{Bad, Memory}
 use Rattle.snap_state.specs.declared.copy.StateCopy.{StateCopy}
@@ -79,6 +81,20 @@ pub stuck : (v : Version) (e : ReadError) (rest left : List ℕ) → Takes (cont
 stuck v Bad rest left e = not_held v rest e
 stuck v Memory rest left e = tt
 
+-- ---- gate and magic
+
+pub behind_magic : (v : Version) (rest : List ℕ) → drop 12 (1 ∷ magic v ++ rest) ≡ rest
+behind_magic One rest = refl
+behind_magic Two rest = refl
+
+long_magic : (v : Version) (rest : List ℕ) → length (1 ∷ magic v ++ rest) ≡ 12 + length rest
+long_magic One rest = refl
+long_magic Two rest = refl
+
+same_magic : (v : Version) (rest : List ℕ) → is_other (magic v) (1 ∷ magic v ++ rest) ≡ false
+same_magic One rest = refl
+same_magic Two rest = refl
+
 -- ---- the whole file
 
 regroup : (a b c d : List ℕ) → ((a ++ b) ++ c) ++ d ≡ a ++ (b ++ (c ++ d))
@@ -99,12 +115,32 @@ encoded i c body behind written fits fits_len fits_identity valid numbered behin
     let whole : behind ≡ start ++ (number32.bytes (length body) ++ (identity.bytes i ++ body)) =
     behind-is ∙ ap (λ (x : List ℕ). x ++ body) puts ∙ regroup start (number32.bytes (length body)) (identity.bytes i) body in
     subst (λ (b : List ℕ). number32.Fits (length b) → behind ≡ start ++ (number32.bytes (length b) ++ (identity.bytes i ++ b)) → Encodes (1 ∷ behind) (record { identity = i; copy = c })) (sym body-is)
+<<<<<<< f4895c43
+    (λ fits_len' whole'. subst (λ (l : List ℕ). Encodes (1 ∷ l) (record { identity = i; copy = c })) (sym whole')
+    (record { saved = record { fits = (fits_len', (fits_identity, fits)); valid = valid; numbered = numbered }; bytes = refl })) fits_len whole
+
+-- and they say the version that is written
+pub says_current : (i : Identity) (body behind : List ℕ) → behind ≡ identity.puts i (number32.puts (length body) (magic current_version)) ++ body
+    → version_of (1 ∷ behind) ≡ current_version
+says_current i body behind is =
+    let start : List ℕ = magic current_version in
+    let puts : identity.puts i (number32.puts (length body) start) ≡ (start ++ number32.bytes (length body)) ++ identity.bytes i =
+    identity.same i (number32.puts (length body) start)
+    ∙ ap (λ (x : List ℕ). x ++ identity.bytes i) (number32.same (length body) start) in
+    let whole : behind ≡ start ++ (number32.bytes (length body) ++ (identity.bytes i ++ body)) =
+    is ∙ ap (λ (x : List ℕ). x ++ body) puts ∙ regroup start (number32.bytes (length body)) (identity.bytes i) body in
+    ap (λ (l : List ℕ). version_of (1 ∷ l)) whole
+=======
     (λ fits_len' whole'. record { saved = record { fits = (fits_len', (fits_identity, fits)); valid = valid; numbered = numbered }; bytes = ap (λ (l : List ℕ). 1 ∷ l) whole' }) fits_len whole
+>>>>>>> m
 
 -- ---- one copy
 
 held : (given : List ℕ) (s : Saved) → Encodes given s → Holds (version_of given) (drop 12 given) s
-held given s e = record { saved = e.saved; bytes = ap (drop 12) e.bytes }
+held given s e = record {
+  saved = e.saved;
+  bytes = ap (drop 12) e.bytes ∙ behind_magic (version_of given) ((contents (version_of given)).bytes (contents_of (version_of given) s));
+}
 
 pub one : (given : List ℕ) (s t : Saved) → Encodes given s → Encodes given t → s ≡ t
 one given s t e f =
@@ -124,10 +160,11 @@ pub opened : (given : List ℕ) (s : Saved) → Encodes given s → is_closed 32
 opened given s e =
     let v = version_of given in
     let size : length given ≡ 32 + length ((state_copy v).bytes s.copy) =
-    omega (arith, ap length e.bytes, length-contents v (length ((state_copy v).bytes s.copy)) s.identity s.copy) in
+    omega (arith, ap length e.bytes, long_magic v ((contents v).bytes (contents_of v s)), length-contents v (length ((state_copy v).bytes s.copy)) s.identity s.copy) in
     let long : ltb (length given) 32 ≡ false = le-ltb _ _ (omega arith) in
     let first : get_or given 0 0 ≡ 1 = ap (λ (bs : List ℕ). get_or bs 0 0) e.bytes in
     rw (long, first) refl
 
 pub known : (given : List ℕ) (s : Saved) → Encodes given s → is_other (magic (version_of given)) given ≡ false
-known given s e = ap (is_other (magic (version_of given))) e.bytes
+known given s e =
+    ap (is_other (magic (version_of given))) e.bytes ∙ same_magic (version_of given) ((contents (version_of given)).bytes (contents_of (version_of given) s))

@@ -10,7 +10,7 @@ use Rattle.api_calls.specs.declared.call.CacheType.{CacheType}
 use Rattle.api_calls.specs.declared.call.CacheType.TheVariants.{Unsafe, Writeback}
 use Rattle.api_calls.specs.declared.call.Drive.{Drive}
 use Rattle.api_calls.specs.declared.interface.Interface.{Interface}
-<<<<<<< 717b8584
+<<<<<<< f4895c43
 use Rattle.api_calls.specs.declared.mmds.MmdsConfig.{MmdsConfig}
 use Rattle.metadata_store.specs.declared.version.MetadataVersion.{MetadataVersion}
 use Rattle.metadata_store.specs.declared.version.MetadataVersion.TheVariants.{V1, V2}
@@ -33,6 +33,7 @@ use Rattle.snap_state.specs.declared.board.SavedBoard.{SavedBoard}
 use Rattle.snap_state.specs.declared.configuration.BootSource.{BootSource}
 use Rattle.snap_state.specs.declared.configuration.Configuration.{Configuration}
 use Rattle.snap_state.specs.declared.copy.Reservation.{Reservation}
+use Rattle.snap_state.specs.declared.copy.Section.{Section}
 use Rattle.snap_state.specs.declared.copy.StateCopy.{StateCopy}
 use Rattle.snap_state.specs.Boards.{board}
 use Rattle.snap_state.specs.Configured as configured
@@ -40,20 +41,22 @@ use Rattle.snap_state.specs.Copies as copies
 use Rattle.snap_state.specs.Drives as drives
 use Rattle.snap_state.specs.Interfaces as interfaces
 use Rattle.snap_state.specs.Limits as limits
-<<<<<<< 717b8584
+<<<<<<< f4895c43
 use Rattle.snap_state.specs.Mmds as mmds
+use Rattle.file_format.specs.declared.version.Version.{Version}
+use Rattle.file_format.specs.declared.version.Version.TheVariants.{One, Two}
+use Rattle.snap_state.specs.Files as state
+use Rattle.snap_harts.specs.Harts.{hart}
+use Rattle.snap_harts.specs.HartStates.{hart_state}
+use Rattle.snap_state.specs.Valid.{are_drives, are_interfaces, are_paths, are_sections, has_devices, has_machine, has_room, is_balloon, is_before, is_board, is_drive, is_interface, is_machine, is_mmds, is_reserved, is_rising, is_source, is_valid, is_vsock, rises_from}
+use Rattle.snap_state.proofs.HasDevices.{has_parts, many_devices, many_ports}
+use Rattle.snap_state.proofs.Texts.{address_short, args_short, id_short, ids_few, mmds_parts, path_short}
 =======
->>>>>>> m
 use Rattle.file_format.specs.Versions.{Version}
 use Rattle.file_format.specs.Versions.Version.{One}
 use Rattle.snap_state.specs.Files as state
 use Rattle.snap_harts.specs.Harts.{hart}
 use Rattle.snap_harts.specs.HartStates.{hart_state}
-<<<<<<< 717b8584
-use Rattle.snap_state.specs.Valid.{are_drives, are_interfaces, are_paths, are_sections, has_devices, has_machine, has_room, is_balloon, is_before, is_board, is_drive, is_interface, is_machine, is_mmds, is_reserved, is_rising, is_source, is_valid, is_vsock, rises_from}
-use Rattle.snap_state.proofs.HasDevices.{has_parts, many_devices, many_ports}
-use Rattle.snap_state.proofs.Texts.{address_short, args_short, id_short, ids_few, mmds_parts, path_short}
-=======
 use Rattle.snap_state.specs.Valid.{are_drives, are_interfaces, are_paths, are_sections, has_devices, has_machine, has_room, is_balloon, is_before, is_board, is_drive, is_interface, is_machine, is_reserved, is_rising, is_source, is_valid, rises_from}
 use Rattle.snap_state.proofs.HasDevices.{has_parts, many_devices, many_ports}
 use Rattle.snap_state.proofs.Texts.{args_short, id_short, path_short}
@@ -117,7 +120,7 @@ interface_within =
     made_within _ interface_most (λ a. omega arith)
     (pair_within text_within (pair_within text_within (pair_within (optional_within text text_within)
     (pair_within (any_within 52 limits.limiter limiter_within) (any_within 52 limits.limiter limiter_within)))))
-<<<<<<< 717b8584
+<<<<<<< f4895c43
 
 version_takes : (name : List ℕ) (first second : Bool) (left : List ℕ) (v : MetadataVersion) (rest : List ℕ)
     → bytes_eq name (codes "V1") ≡ first → bytes_eq name (codes "V2") ≡ second
@@ -179,7 +182,7 @@ configuration_within =
     made_within _ configuration_most (λ a. omega arith)
     (pair_within
     (pair_within (fixed_within (1 ∷ [])) (pair_within source_within (pair_within (list_within drives.drive drive_within)
-<<<<<<< 717b8584
+<<<<<<< f4895c43
     (pair_within (list_within interfaces.interface interface_within) (optional_within configured.vsock vsock_within)))))
     (pair_within within64 (pair_within within64 (pair_within (zeros_within 1)
     (pair_within flag_within (pair_within (any_within 17 configured.balloon balloon_within) (optional_within mmds.mmds mmds_within)))))))
@@ -214,16 +217,32 @@ unfolding copies.devices
 few_devices =
     passing_within _ (λ ds. 4 + 30644 * length ds) (λ v is. omega arith)
     (each_within 30644 (listed device) (listed_within 30640 device device_within))
+<<<<<<< f4895c43
+
+abbrev section_most : Section → ℕ
+section_most s = 4 + (4 + length s.bytes)
+=======
+>>>>>>> m
 
 abbrev copy_most : StateCopy → ℕ
 copy_most c =
     (configuration_most c.configuration + 13)
     + (board_most c.board
     + ((4 + 328 * length c.harts)
+<<<<<<< f4895c43
+    + ((4 + 153 * length c.ports) + ((4 + 30644 * length c.devices) + ((4 + 12 * length c.reservations) + (4 + total section_most c.sections))))))
+=======
     + ((4 + 153 * length c.ports) + ((4 + 30644 * length c.devices) + (4 + 12 * length c.reservations)))))
+>>>>>>> m
 
-sections_within : (v : Version) → Within (copies.sections_in v).reads (λ _. 0)
-sections_within One = just_within _ 0
+section_within : Within copies.section.reads section_most
+unfolding copies.section
+section_within = made_within _ section_most (λ a. omega arith) (pair_within within32 bytes_within)
+
+sections_within : (v : Version) → Within (copies.sections_in v).reads (λ sections. 4 + total section_most sections)
+unfolding copies.sections_in
+sections_within One = record { at = λ given v rest is. omega (arith, (just_within [] 0).at given v rest is) }
+sections_within Two = list_within copies.section section_within
 
 copy_within : (v : Version) → Within (copies.state_copy v).reads copy_most
 unfolding copies.state_copy
@@ -319,7 +338,7 @@ interfaces_short : (is : List Interface) → are_interfaces is ≡ true → tota
 interfaces_short is all =
     let parts = and_parts (list_all is_interface is) (are_apart id_of_interface is) all in
     total-pass interface_most is_interface 4295 interface_short is parts.0
-<<<<<<< 717b8584
+<<<<<<< f4895c43
 
 vsock_short : (v : Option Vsock) → holds is_vsock v ≡ true → optional_most vsock_most v ≤ 4108
 vsock_short None is = omega arith
@@ -356,22 +375,31 @@ machine_small c is =
     let harts = and_parts _ (leb m.vcpu_count 32) least.0 in
     (leb-true _ _ harts.1, omega (arith, eqb-true _ _ both.1, leb-true _ _ most.1))
 
-<<<<<<< 717b8584
+<<<<<<< f4895c43
 devices_few : (c : StateCopy) → has_devices c ≡ true → has_room c.configuration.drives c.configuration.interfaces c.configuration.vsock c.configuration.balloon ≡ true
     → (length c.ports ≤ 16) × (length c.devices ≤ 16) × (length c.configuration.interfaces ≤ 16)
 devices_few c is room =
     let has = has_parts c is in
     let few = leb-true (count_in c.configuration.drives c.configuration.interfaces c.configuration.vsock c.configuration.balloon) 16 room in
+    let ports = many_ports c has in
+    let devices = many_devices c has in
+    (omega (arith, few, ports), omega (arith, few, devices), omega (arith, few))
+
+-- ---- sections: none is known yet
+
+no_sections : (sections : List Section) → are_sections sections ≡ true → total section_most sections ≡ 0
+no_sections [] is = refl
+no_sections (s ∷ sections) is = absurd cc
 =======
 devices_few : (c : StateCopy) → has_devices c ≡ true → has_room c.configuration.drives c.configuration.interfaces c.configuration.balloon ≡ true
     → (length c.ports ≤ 16) × (length c.devices ≤ 16) × (length c.configuration.interfaces ≤ 16)
 devices_few c is room =
     let has = has_parts c is in
     let few = leb-true (count_in c.configuration.drives c.configuration.interfaces c.configuration.balloon) 16 room in
->>>>>>> m
     let ports = many_ports c has in
     let devices = many_devices c has in
     (omega (arith, few, ports), omega (arith, few, devices), omega (arith, few))
+>>>>>>> m
 
 -- ---- all of it
 
@@ -386,7 +414,7 @@ copy_short c is =
     let harts = and_parts _ _ devices.0 in
     let count = and_parts _ (eqb (length c.harts) harts_there) harts.0 in
     let boards = and_parts _ (is_board harts_there c.board) count.0 in
-<<<<<<< 717b8584
+<<<<<<< f4895c43
     let room = and_parts _ (has_room c.configuration.drives c.configuration.interfaces c.configuration.vsock c.configuration.balloon) boards.0 in
     let balloons = and_parts _ (holds (is_balloon c.configuration.machine.mem_size_mib) c.configuration.balloon) room.0 in
     let machine = and_parts _ (has_machine c c.configuration.machine) balloons.0 in
@@ -411,7 +439,7 @@ copy_short c is =
       small.0,
       small.1,
       interfaces_short c.configuration.interfaces linked.1,
-<<<<<<< 717b8584
+<<<<<<< f4895c43
       vsock_short c.configuration.vsock sockets.1,
       mmds_short c.configuration.interfaces c.configuration.mmds given.1,
 =======
@@ -421,6 +449,7 @@ copy_short c is =
       few.2,
       board_short harts_there c.board small.0 boards.1,
       eqb-true _ _ count.1,
+      no_sections c.sections known.1,
       few_reservations c.pages harts_there small.0 c.reservations reserved.1 rising.1,
     )
 

@@ -1,9 +1,15 @@
 -- The body of a state file.
 use Rattle.std.specs.Prelude.{refl, nat_le, Bool, List, [], length}
 use Rattle.file_format.specs.Format.{Format}
+<<<<<<< f4895c43
+use Rattle.file_format.specs.Kinds.{number32, number64, flag, byte_list, list_of, passing, just, ◌&◌, made_of}
+use Rattle.file_format.specs.declared.version.Version.{Version}
+use Rattle.file_format.specs.declared.version.Version.TheVariants.{One, Two}
+=======
 use Rattle.file_format.specs.Kinds.{number32, number64, flag, list_of, passing, just, ◌&◌, made_of}
 use Rattle.file_format.specs.Versions.{Version}
 use Rattle.file_format.specs.Versions.Version.{One}
+>>>>>>> m
 use Rattle.file_format.specs.Ends.{listed}
 use Rattle.file_format.specs.Whole.{counted}
 use Rattle.port_table.specs.Window.{most_ports}
@@ -31,10 +37,20 @@ are_few ds = nat_le (length ds) most_ports
 
 unfoldable pub devices : Format (List Device)
 devices = passing are_few (list_of (listed device))
+<<<<<<< f4895c43
+
+-- what stands under a tag
+unfoldable pub section : Format Section
+section =
+    made_of (λ s. (s.tag, s.bytes)) (λ (tag, bytes). record { tag = tag; bytes = bytes }) (λ _. refl) (λ _. refl)
+    (number32 & byte_list)
+=======
+>>>>>>> m
 
 -- version 1 has no place for sections
-abbrev pub sections_in : Version → Format (List Section)
+unfoldable pub sections_in : Version → Format (List Section)
 sections_in One = just []
+sections_in Two = list_of section
 
 -- The configuration, the number of pages, track_dirty_pages once more and guest time; the board and the harts; the ports
 -- and the devices, each as a list of its bytes; the reservations; and the sections, as the version has them.

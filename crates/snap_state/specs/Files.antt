@@ -4,7 +4,8 @@ use Rattle.vm_types.specs.declared.identity.Identity.{Identity}
 use Rattle.file_format.specs.Format.{Format}
 use Rattle.file_format.specs.Kinds.{number32, ◌&◌}
 use Rattle.file_format.specs.Identities.{identity, is_numbered}
-use Rattle.file_format.specs.Versions.{Version, version_bytes, version_of}
+use Rattle.file_format.specs.Versions.{version_bytes, version_of}
+use Rattle.file_format.specs.declared.version.Version.{Version}
 use Rattle.file_format.specs.declared.error.ReadError.{ReadError}
 use Rattle.file_format.specs.declared.error.ReadError.TheVariants.{Bad, Memory}
 use Rattle.snap_state.specs.declared.copy.StateCopy.{StateCopy}

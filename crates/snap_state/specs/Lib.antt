@@ -1,7 +1,7 @@
 pub mod Limits
 pub mod Drives
 pub mod Interfaces
-<<<<<<< 717b8584
+<<<<<<< f4895c43
 pub mod Mmds
 =======
 >>>>>>> m

@@ -4,7 +4,7 @@ ghost use Rattle.std.specs.Str.{bytes_eq};
 ghost use Rattle.api_calls.specs.Addresses as addresses;
 ghost use Rattle.api_calls.specs.Form.{holds};
 
-<<<<<<< 717b8584
+<<<<<<< f4895c43
 use api_calls::is_mac;
 use vm_types::TextList;
 

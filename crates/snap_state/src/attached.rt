@@ -1,4 +1,4 @@
-<<<<<<< 717b8584
+<<<<<<< f4895c43
 // Which drives, interfaces and devices there are, and at which of them metadata are given.
 =======
 // Which drives, interfaces and devices there are.
@@ -7,7 +7,7 @@ ghost use Rattle.std.specs.Prelude.{◌≡◌, count_by, nat_le};
 ghost use Rattle.std.specs.List.{list_all};
 ghost use Rattle.api_calls.specs.Drives.{is_root};
 ghost use Rattle.api_calls.specs.Form.{is_id, is_id_byte};
-<<<<<<< 717b8584
+<<<<<<< f4895c43
 ghost use Rattle.vm_config.specs.Devices.{balloon_count, vsock_count};
 ghost use Rattle.vm_config.specs.Interfaces.{has_interface};
 =======
@@ -17,7 +17,7 @@ ghost use Rattle.vm_config.specs.Named.{are_apart, has_named};
 ghost use Rattle.snap_state.specs.Valid.{are_devices, are_drives, are_interfaces, has_room, is_device, is_drive, is_interface};
 
 use crate::address::holds_mac;
-<<<<<<< 717b8584
+<<<<<<< f4895c43
 use crate::filed::Filed;
 use crate::limits::holds_limiter;
 use crate::valid::is_path;
@@ -133,7 +133,7 @@ pub fn are_interfaces(interfaces: &[Interface]) -> bool
     have_links(interfaces) && are_apart(interfaces)
 }
 
-<<<<<<< 717b8584
+<<<<<<< f4895c43
 /// Whether each of these ids is that of one of them.
 pub fn are_there(interfaces: &[Interface], ids: &[TextList]) -> bool
     ensures { result ≡ list_all (has_interface interfaces.now) ids.now }
@@ -152,7 +152,7 @@ fn balloon_count(balloon: &Option<Balloon>) -> usize
     }
 }
 
-<<<<<<< 717b8584
+<<<<<<< f4895c43
 /// How many of them there are.
 pub fn vsock_count(vsock: &Option<Filed<Vsock>>) -> usize
     ensures { result ≡ vsock_count vsock.now }
@@ -194,7 +194,7 @@ fn is_device(pages: u32, port: usize, item: &Listed<Saved<Device>>) -> bool
 }
 
 /// Whether these are the devices of the ports from 0 on, in a guest of so many pages.
-<<<<<<< 717b8584
+<<<<<<< f4895c43
 pub fn are_devices(pages: u32, devices: &[Listed<SavedDevice>]) -> bool
 =======
 pub fn are_devices(pages: u32, devices: &[Listed<Saved<Device>>]) -> bool

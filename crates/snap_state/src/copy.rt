@@ -1,14 +1,16 @@
 // What a state file holds.
 ghost use Rattle.std.specs.Prelude.{◌≡◌, OnOk};
 ghost use Rattle.file_format.specs.Versions.{current_version};
-ghost use Rattle.snap_state.specs.Copies.{reservation, sections_in, state_copy};
+ghost use Rattle.file_format.specs.Reading.{Takes};
+ghost use Rattle.snap_state.specs.Copies.{reservation, section, sections_in, state_copy};
 
 use crate::board::SavedBoard;
 use crate::configuration::Configuration;
 use crate::devices::{read_devices, write_devices};
-use file_format::{Counted, Input, Items, Listed, ReadError, Stored};
-<<<<<<< 717b8584
+<<<<<<< f4895c43
+use file_format::{Counted, Input, Items, Listed, ReadError, Stored, Version};
 =======
+use file_format::{Counted, Input, Items, Listed, ReadError, Stored};
 use guest_devices::Device;
 >>>>>>> m
 use mmio_port::Port;
@@ -26,7 +28,7 @@ pub struct Reservation {
     pub offset: u32,
 }
 
-/// What a version of the file has behind the copy, under a tag. No tag is known yet.
+/// What version 2 of the file has behind the copy, under a tag. No tag is known yet.
 #[derive(Drop)]
 pub struct Section {
     pub tag: u32,
@@ -47,7 +49,7 @@ pub struct StateCopy {
     /// The ports of the devices, by their numbers.
     pub ports: Items<Counted<Saved<Port>>>,
     /// The devices, each by the number of its port.
-<<<<<<< 717b8584
+<<<<<<< f4895c43
     pub devices: Items<Listed<SavedDevice>>,
 =======
     pub devices: Items<Listed<Saved<Device>>>,
@@ -75,15 +77,71 @@ impl Stored for Reservation {
     }
 }
 
-// The file has no place for sections. A copy that has some is given up as if there were no memory.
+#[tactic(auto, unfolding(crate::specs::Copies::section))]
+impl Stored for Section {
+    ghost format = { section };
+
+    fn write(&self, out: &mut Vec<u8>) -> Result<(), AllocError> {
+        self.tag.write(out)?;
+        self.bytes.write(out)?;
+        Ok(())
+    }
+
+    fn read(alloc: Global, input: &mut Input) -> Result<Section, ReadError> {
+        let (tag, bytes) = Stored::read(alloc, input)?;
+        Ok(Section { tag, bytes })
+    }
+}
+
+#[tactic(auto, unfolding(crate::specs::Copies::sections_in))]
 fn write_sections(sections: &Items<Section>, out: &mut Vec<u8>) -> Result<(), AllocError>
     ensures fits { OnOk result ((sections_in current_version).Fits sections.now) }
     ensures bytes { OnOk result (out.new.items ≡ (sections_in current_version).puts sections.now out.old.items) }
 {
-    if !sections.as_slice().is_empty() {
-        return Err(AllocError);
+    sections.write(out)
+}
+
+#[tactic(auto, unfolding(crate::specs::Copies::sections_in))]
+fn read_sections(
+    alloc: Global,
+    version: Version,
+    input: &mut Input,
+) -> Result<Items<Section>, ReadError>
+    ensures { Takes (sections_in version) input.old input.new result }
+{
+    match version {
+        Version::One => Ok(Items::new(alloc)),
+        Version::Two => Stored::read(alloc, input),
     }
-    Ok(())
+}
+
+/// The copy at the front of a body of this version.
+#[tactic(auto, unfolding(crate::specs::Copies::state_copy))]
+pub(crate) fn read_copy(
+    alloc: Global,
+    version: Version,
+    input: &mut Input,
+) -> Result<StateCopy, ReadError>
+    ensures { Takes (state_copy version) input.old input.new result }
+{
+    let (configuration, (pages, (track_dirty_pages, guest_time))) = Stored::read(alloc, input)?;
+    let (board, harts) = Stored::read(alloc, input)?;
+    let ports = Stored::read(alloc, input)?;
+    let devices = read_devices(alloc, input)?;
+    let reservations = Stored::read(alloc, input)?;
+    let sections = read_sections(alloc, version, input)?;
+    Ok(StateCopy {
+        configuration,
+        pages,
+        track_dirty_pages,
+        guest_time,
+        board,
+        harts,
+        ports,
+        devices,
+        reservations,
+        sections,
+    })
 }
 
 #[tactic(auto, unfolding(crate::specs::Copies::state_copy))]
@@ -105,22 +163,6 @@ impl Stored for StateCopy {
     }
 
     fn read(alloc: Global, input: &mut Input) -> Result<StateCopy, ReadError> {
-        let (configuration, (pages, (track_dirty_pages, guest_time))) = Stored::read(alloc, input)?;
-        let (board, harts) = Stored::read(alloc, input)?;
-        let ports = Stored::read(alloc, input)?;
-        let devices = read_devices(alloc, input)?;
-        let reservations = Stored::read(alloc, input)?;
-        Ok(StateCopy {
-            configuration,
-            pages,
-            track_dirty_pages,
-            guest_time,
-            board,
-            harts,
-            ports,
-            devices,
-            reservations,
-            sections: Items::new(alloc),
-        })
+        read_copy(alloc, Version::Two, input)
     }
 }

@@ -4,7 +4,7 @@ ghost use Rattle.file_format.specs.Reading.{Takes};
 ghost use Rattle.snap_state.specs.Copies.{devices};
 
 use file_format::{Input, Items, Listed, ReadError, Stored, read_items};
-<<<<<<< 717b8584
+<<<<<<< f4895c43
 use snap_devices::SavedDevice;
 =======
 use guest_devices::Device;
@@ -17,7 +17,7 @@ const MOST_DEVICES: usize = 16;
 
 /// Puts the devices at the end. More than there can be are given up as if there were no memory.
 #[tactic(auto, unfolding(crate::specs::Copies::devices))]
-<<<<<<< 717b8584
+<<<<<<< f4895c43
 pub fn write_devices(list: &Items<Listed<SavedDevice>>, out: &mut Vec<u8>) -> Result<(), AllocError>
 =======
 pub fn write_devices(
@@ -39,7 +39,7 @@ pub fn write_devices(
 pub fn read_devices(
     alloc: Global,
     input: &mut Input,
-<<<<<<< 717b8584
+<<<<<<< f4895c43
 ) -> Result<Items<Listed<SavedDevice>>, ReadError>
 =======
 ) -> Result<Items<Listed<Saved<Device>>>, ReadError>

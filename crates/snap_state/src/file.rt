@@ -4,20 +4,35 @@ ghost use Rattle.file_format.specs.Kinds.{number32};
 ghost use Rattle.file_format.specs.Identities.{identity as named, is_numbered};
 ghost use Rattle.file_format.specs.Starts.{Decodes};
 ghost use Rattle.file_format.specs.Versions.{version_of, current_version};
-ghost use Rattle.snap_state.specs.Files.{magic, Encodes, Found, is_accepted};
+ghost use Rattle.file_format.specs.Reading.{Takes};
+ghost use Rattle.snap_state.specs.Files.{contents, magic, Encodes, Found, is_accepted};
 ghost use Rattle.snap_state.specs.Valid.{is_valid};
 
-use crate::copy::StateCopy;
+use crate::copy::{StateCopy, read_copy};
 use crate::valid::is_valid;
-use file_format::{DecodeError, Input, ReadError, Stored, is_closed, is_numbered, is_other};
+use file_format::{
+    DecodeError, Input, ReadError, Stored, Version, is_closed, is_numbered, is_other, version_of,
+};
 use std::alloc::{AllocError, Global};
 use vm_types::Identity;
 
 /// How many bytes the header of a state file has.
 pub const STATE_HEADER: usize = 32;
 
+<<<<<<< f4895c43
+/// What stands behind its gate: "RVFCSTA", and the version.
+pub fn state_magic(version: Version) -> [u8; 11]
+    ensures { result ≡ magic version }
+{
+    match version {
+        Version::One => [82, 86, 70, 67, 83, 84, 65, 1, 0, 0, 0],
+        Version::Two => [82, 86, 70, 67, 83, 84, 65, 2, 0, 0, 0],
+    }
+}
+=======
 /// What stands behind its gate: "RVFCSTA", and version 1.
 pub const STATE_MAGIC: [u8; 11] = [82, 86, 70, 67, 83, 84, 65, 1, 0, 0, 0];
+>>>>>>> m
 
 /// A copy, under the identity of its snapshot.
 #[derive(Drop)]
@@ -32,12 +47,24 @@ fn is_accepted(size: usize, left: usize, len: u32, identity: Identity, copy: &St
     left == 0 && len as u64 + 20 == size as u64 && is_numbered(identity) && is_valid(copy)
 }
 
+fn read_contents(
+    alloc: Global,
+    version: Version,
+    input: &mut Input,
+) -> Result<(u32, (Identity, StateCopy)), ReadError>
+    ensures { Takes (contents version) input.old input.new result }
+{
+    let (len, identity) = Stored::read(alloc, input)?;
+    let copy = read_copy(alloc, version, input)?;
+    Ok((len, (identity, copy)))
+}
+
 // What stands behind gate and magic.
-fn contents_at(alloc: Global, rest: &[u8]) -> Result<Saved, ReadError>
-    ensures { Found current_version rest.now result }
+fn contents_at(alloc: Global, version: Version, rest: &[u8]) -> Result<Saved, ReadError>
+    ensures { Found version rest.now result }
 {
     let mut input = Input::new(rest);
-    let (len, (identity, copy)): (u32, (Identity, StateCopy)) = Stored::read(alloc, &mut input)?;
+    let (len, (identity, copy)) = read_contents(alloc, version, &mut input)?;
     if is_accepted(rest.len(), input.len(), len, identity, &copy) {
         Ok(Saved { identity, copy })
     } else {
@@ -53,11 +80,16 @@ pub fn decode(alloc: Global, bytes: &[u8]) -> Result<Saved, DecodeError>
     if is_closed(bytes, STATE_HEADER) {
         return Err(DecodeError::GateClosed);
     }
+<<<<<<< f4895c43
+    let version = version_of(bytes);
+    if is_other(bytes, &state_magic(version)) {
+=======
     if is_other(bytes, &STATE_MAGIC) {
+>>>>>>> m
         return Err(DecodeError::WrongMagic);
     }
     let (_, rest) = bytes.split_at(12);
-    match contents_at(alloc, rest) {
+    match contents_at(alloc, version, rest) {
         Ok(saved) => Ok(saved),
         Err(ReadError::Bad) => Err(DecodeError::BadField),
         Err(ReadError::Memory) => Err(DecodeError::OutOfMemory),
@@ -75,7 +107,11 @@ fn with_header(alloc: Global, identity: Identity, body: &[u8]) -> Result<Vec<u8>
         return Err(AllocError);
     };
     let mut behind = Vec::new(alloc);
+<<<<<<< f4895c43
+    behind.extend_from_slice(&state_magic(Version::Two))?;
+=======
     behind.extend_from_slice(&STATE_MAGIC)?;
+>>>>>>> m
     len.write(&mut behind)?;
     identity.write(&mut behind)?;
     behind.extend_from_slice(body)?;
@@ -90,7 +126,12 @@ pub fn encode_behind_gate(
 ) -> Result<Vec<u8>, AllocError>
     requires valid { IsTrue (is_valid copy.now) }
     requires numbered { IsTrue (is_numbered identity) }
+<<<<<<< f4895c43
+    ensures encodes { IfOk result (λ behind. Encodes (1 ∷ behind.items) (record { identity = identity; copy = copy.now })) }
+    ensures version { IfOk result (λ behind. version_of (1 ∷ behind.items) ≡ current_version) }
+=======
     ensures { IfOk result (λ behind. Encodes (1 ∷ behind.items) (record { identity = identity; copy = copy.now })) }
+>>>>>>> m
 {
     let mut body = Vec::new(alloc);
     copy.write(&mut body)?;

@@ -22,7 +22,7 @@ mod kinds;
 mod law;
 mod limits;
 mod listed;
-<<<<<<< 717b8584
+<<<<<<< f4895c43
 mod mmds;
 =======
 >>>>>>> m
@@ -32,10 +32,11 @@ mod vsock;
 pub use board::SavedBoard;
 pub use configuration::{BootSource, Configuration};
 pub use copy::{Reservation, Section, StateCopy};
-pub use file::{STATE_HEADER, STATE_MAGIC, Saved, decode, encode_behind_gate};
-<<<<<<< 717b8584
+<<<<<<< f4895c43
+pub use file::{STATE_HEADER, Saved, decode, encode_behind_gate, state_magic};
 pub use filed::{Filed, taken};
 =======
+pub use file::{STATE_HEADER, STATE_MAGIC, Saved, decode, encode_behind_gate};
 >>>>>>> m
 pub use law::{one_copy, one_of_each};
 pub use listed::{Item, SavedDrives, SavedInterfaces, SavedList};

@@ -15,7 +15,7 @@ use crate::board::SavedBoard;
 use crate::configuration::BootSource;
 use crate::copy::{Reservation, Section, StateCopy};
 use crate::kinds::{are_device_kinds, are_ports};
-<<<<<<< 717b8584
+<<<<<<< f4895c43
 use crate::mmds::holds_mmds;
 use crate::vsock::holds_vsock;
 =======
@@ -42,7 +42,7 @@ fn is_within(most: usize, text: &str) -> bool
     text.len() <= most
 }
 
-<<<<<<< 717b8584
+<<<<<<< f4895c43
 pub(crate) fn is_short_text(most: usize, text: &str) -> bool
 =======
 fn is_short_text(most: usize, text: &str) -> bool
@@ -233,7 +233,7 @@ pub fn is_valid(copy: &StateCopy) -> bool
     is_source(&copy.configuration.boot_source)
         && are_drives(&copy.configuration.drives.items)
         && are_interfaces(&copy.configuration.interfaces.items)
-<<<<<<< 717b8584
+<<<<<<< f4895c43
         && holds_vsock(&copy.configuration.vsock)
         && holds_mmds(
             &copy.configuration.interfaces.items,
@@ -246,7 +246,7 @@ pub fn is_valid(copy: &StateCopy) -> bool
         && has_room(
             &copy.configuration.drives.items,
             &copy.configuration.interfaces.items,
-<<<<<<< 717b8584
+<<<<<<< f4895c43
             &copy.configuration.vsock,
 =======
 >>>>>>> m

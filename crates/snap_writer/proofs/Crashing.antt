@@ -15,12 +15,12 @@ use Rattle.snap_writer.specs.Blocks.{block_size, block_writes}
 use Rattle.snap_writer.specs.Create.{Creates, CreatesPart, create_calls, memory_writes}
 use Rattle.snap_writer.specs.Moments.{memory_target, state_target}
 
-behind_blocks : (at count : ℕ) (bytes : List ℕ) → 1 ≤ at → AreBehind (block_writes at count bytes)
+pub behind_blocks : (at count : ℕ) (bytes : List ℕ) → 1 ≤ at → AreBehind (block_writes at count bytes)
 behind_blocks at zero bytes behind = tt
 behind_blocks at (suc count) bytes behind = (behind, behind_blocks (at + block_size) count (drop block_size bytes) (omega (arith, behind)))
 
 -- the moments of the first of the calls are moments of all
-front_moment : (before now script done rest : List FileCall) (disk : Disk) → done ++ rest ≡ script → now ≡ before ++ done → (left : LeftMeanwhile before now disk)
+pub front_moment : (before now script done rest : List FileCall) (disk : Disk) → done ++ rest ≡ script → now ≡ before ++ done → (left : LeftMeanwhile before now disk)
     → left.moment.done ++ (left.moment.rest ++ rest) ≡ script
 front_moment before now script done rest disk parts calls left =
     let same : left.done ≡ done = append_cancel_left before left.done done (sym left.calls ∙ calls) in

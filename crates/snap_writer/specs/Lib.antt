@@ -1,4 +1,5 @@
 pub mod Blocks
 pub mod Create
-pub mod Selected
 pub mod Moments
+pub mod Saving
+pub mod Selected

@@ -1,12 +1,11 @@
 -- What a create left, and that each diff is of the memory before it.
-use Rattle.std.proofs.Common.{◌≡◌, ◌≢◌, ℕ, ◌+◌, ◌<◌, ◌≤◌, ◌==◌, ◌&&◌, Bool, true, false, not, List, [], ◌∷◌, ◌++◌, length, Option, Some, None, refl, sym, ap, subst, ◌∙◌, ◌⊎◌, inl, inr, arith}
+use Rattle.std.proofs.Common.{◌≡◌, ◌≢◌, ℕ, ◌+◌, ◌<◌, ◌==◌, ◌&&◌, Bool, true, false, not, List, [], ◌∷◌, ◌++◌, Option, Some, None, refl, sym, ap, subst, ◌∙◌, ◌⊎◌, inl, inr, arith}
 use Rattle.std.specs.Prelude.{IsTrue}
 use Rattle.std.specs.FinMap.{get, insert}
 use Rattle.std.proofs.lemmas.Bool.{and_parts, eqb-true, false_from_ne_true}
 use Rattle.vm_types.specs.declared.identity.Identity.{Identity}
 use Rattle.gate_file.proofs.Inserts.{got_other, got_there}
 use Rattle.http_stream.specs.Conversation.{arrived}
-use Rattle.file_format.specs.Kinds.{fixed, number32, zeros}
 use Rattle.file_format.specs.Identities.{identity, is_numbered, is_same}
 use Rattle.api_calls.specs.declared.call.SnapshotType.{SnapshotType}
 use Rattle.api_calls.specs.declared.call.SnapshotType.TheVariants as snapshot
@@ -23,7 +22,7 @@ use Rattle.flat_snapshot.specs.Carried.{carried_guest}
 use Rattle.flat_snapshot.specs.Copies.{IsCopyOf}
 use Rattle.flat_snapshot.specs.Files.{diff_file, head_of, memory_file, saved_pages, state_file}
 use Rattle.flat_snapshot.specs.Unwritten.{KeepsUnwritten}
-use Rattle.flat_snapshot.proofs.Diffs.{diff_of_both, is_file, written_few}
+use Rattle.flat_snapshot.proofs.Diffs.{diff_of_both, is_file}
 use Rattle.flat_snapshot.proofs.Loaded.{memory_is, new_valid}
 use Rattle.flat_snapshot.proofs.Unwritten.{keeps_joined, keeps_same}
 use Rattle.flat_machine.specs.Between.{GoesOn, NoCreate, SomeCreate}
@@ -99,12 +98,19 @@ differs a b other = false_from_ne_true (is_same a b) (λ e.
 all_three : (a b c : Bool) → a ≡ true → b ≡ true → c ≡ false → (a && b && not c) ≡ true
 all_three a b c p q r = rw (p, q, r) refl
 
+<<<<<<< f4895c43
+names_fit : (pages : ℕ) (parent own : Identity) → identity.Fits parent → memory.header.Fits (memory.new_header pages own)
+    → diffs.names.Fits (record { pages = pages; parent = parent; identity = own })
+unfolding memory.header diffs.names
+names_fit pages parent own of fits = (fits.1.1.0, (of, fits.1.1.1.0))
+=======
 header_fits : (pages count : ℕ) (parent own : Identity) → identity.Fits parent → count ≤ pages → memory.header.Fits (memory.new_header pages own)
     → diffs.header.Fits (record { pages = pages; parent = parent; identity = own; count = count })
 unfolding memory.header diffs.header number32 fixed zeros
 header_fits pages count parent own of few fits =
     let small = fits.1.1.0 in
     (refl, (refl, (small, (of, (fits.1.1.1.0, (omega (arith, few, small), tt))))))
+>>>>>>> m
 
 module _ (s : Saving) (parent : Identity) (is : IsSaving snapshot.Diff s) (base : s.before.ids.base ≡ Some parent) (of : identity.Fits parent)
     (numbered : IsTrue (is_numbered parent)) (other : parent ≢ identity_of s) where
@@ -114,7 +120,11 @@ module _ (s : Saving) (parent : Identity) (is : IsSaving snapshot.Diff s) (base 
   pub diff_is_file : IsDiffFile (diff_file (diff_since parent s)) (diff_since parent s)
   diff_is_file =
       is_file parent (identity_of s) s.copy.pages s.guest
+<<<<<<< f4895c43
+      (names_fit s.copy.pages parent (identity_of s) of (fits snapshot.Diff s is))
+=======
       (header_fits s.copy.pages (length (diff_since parent s).numbers) parent (identity_of s) of (written_few s.guest.written 0 s.copy.pages) (fits snapshot.Diff s is))
+>>>>>>> m
       (all_three (is_numbered parent) (is_numbered (identity_of s)) (is_same parent (identity_of s)) numbered (copy_saved snapshot.Diff s is).numbered (differs parent (identity_of s) other))
       is.whole
 

@@ -1,7 +1,9 @@
 pub mod Judged
+pub mod Checked
 pub mod Planned
 pub mod Staged
 pub mod Paging
+pub mod PagingRuns
 pub mod Whole
 pub mod Refusing
 pub mod Texts

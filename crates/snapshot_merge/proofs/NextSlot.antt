@@ -9,7 +9,7 @@ use Rattle.snap_memory.specs.declared.header.MemHeader.{MemHeader}
 use Rattle.snap_memory.specs.declared.slot.Slot.{Slot}
 use Rattle.snap_memory.specs.Headers.{are_slots, last_identity}
 use Rattle.snap_memory.specs.Slots.{is_open, is_zero}
-use Rattle.snap_diff.specs.declared.header.DiffHeader.{DiffHeader}
+use Rattle.snap_diff.specs.declared.header.DiffNames.{DiffNames}
 use Rattle.snapshot_merge.specs.Merges.{begun_merge, done_merge, open_slots, unfinished_merge}
 
 -- as many as are open, by the first
@@ -104,6 +104,6 @@ pub free_behind : (t : Slot) (slots : List Slot) → are_slots slots ≡ true �
 free_behind t [] are = tt
 free_behind t (s ∷ others) are = behind_by t s others (is_open s) refl are (λ rest. free_behind t others rest)
 
-pub free_is_done : (base : MemHeader) (diff : DiffHeader) (o : Option Slot) → IsFree o → unfinished_merge base diff o ≡ done_merge base diff
+pub free_is_done : (base : MemHeader) (diff : DiffNames) (o : Option Slot) → IsFree o → unfinished_merge base diff o ≡ done_merge base diff
 free_is_done base diff None free = refl
 free_is_done base diff (Some s) free = ap (λ (b : Bool). cond b (done_merge base diff) (begun_merge base diff s)) free

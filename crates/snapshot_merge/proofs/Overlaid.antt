@@ -17,7 +17,7 @@ use Rattle.snap_memory.specs.Slots.{is_open, is_zero, slot}
 use Rattle.snap_memory.proofs.Fronts.{length-header}
 use Rattle.snap_diff.specs.Copies.{DiffCopy, MemoryCopy, overlaid, rises, with_pages}
 use Rattle.snap_diff.specs.Headers as diffs
-use Rattle.snap_diff.specs.declared.header.DiffHeader.{DiffHeader}
+use Rattle.snap_diff.specs.declared.header.DiffNames.{DiffNames}
 use Rattle.snap_diff.specs.Diffs.{IsDiffFile}
 use Rattle.snap_diff.specs.Found.{diff_found}
 use Rattle.snap_diff.proofs.Files as files
@@ -156,9 +156,9 @@ gate_fits [] j s all fits = fits.1.0
 gate_fits (t ∷ ts) zero s all fits = all.0.1.0
 gate_fits (t ∷ ts) (suc j) s all fits = gate_fits ts j s all.1 fits
 
-pub identity_fits : (h : DiffHeader) → diffs.header.Fits h → identity.Fits h.identity
-unfolding diffs.header
-identity_fits h fits = fits.1.1.1.1.0
+pub identity_fits : (n : DiffNames) → diffs.names.Fits n → identity.Fits n.identity
+unfolding diffs.names
+identity_fits n fits = fits.1.1
 
 pub in_range : (slots : List Slot) (j : ℕ) (s : Slot) → slice_get slots j ≡ Some s → j < length slots
 in_range [] j s there = absurd cc
@@ -185,14 +185,14 @@ module _ (given file : List ℕ) (head : MemHeader) (m : MemoryCopy) (d : DiffCo
   tests : (is_numbered head.made_as ≡ true) × (memory.are_slots head.slots ≡ true)
   tests = and_parts (is_numbered head.made_as) (memory.are_slots head.slots) holds.valid
 
-  pub diff_header : (diffs.is_header (diffs.header_of d) ≡ true) × (rises d.pages 0 d.numbers ≡ true)
-  diff_header = and_parts (diffs.is_header (diffs.header_of d)) (rises d.pages 0 d.numbers) is.valid
+  pub diff_header : (diffs.are_names (diffs.names_of d) ≡ true) × (rises d.pages 0 d.numbers ≡ true)
+  diff_header = (files.names_good file d is, (files.whole file d is).rise)
 
   pub numbered : is_numbered d.identity ≡ true
   numbered = (and_parts (is_numbered d.parent) (is_numbered d.identity) (and_parts (is_numbered d.parent && is_numbered d.identity) (not (is_same d.parent d.identity)) diff_header.0).0).1
 
   pub of_identity : identity.Fits d.identity
-  of_identity = identity_fits (diffs.header_of d) (files.parts_fit d is.fits).0
+  of_identity = identity_fits (diffs.names_of d) (files.names_fit file d is)
 
   pub size : length head.slots ≡ 100
   size = (slots_fit head holds.fits).0
@@ -296,17 +296,17 @@ module _ (given file : List ℕ) (head : MemHeader) (m : MemoryCopy) (d : DiffCo
       (eq-eqb (length given) (4096 + 4096 * head.pages) (omega (arith, ap length holds.bytes, length-append (memory.header.bytes head) m.bytes, length-header head holds.fits, holds.whole, holds.pages)))
 
   -- by the merging byte
-  pub planned_by : planned (Some given) (Some file) ≡ plan_with d (cond (head.merging == 0) (new_merge head (diffs.header_of d)) (unfinished_merge head (diffs.header_of d) (slice_get head.slots (open_slots head.slots))))
+  pub planned_by : planned (Some given) (Some file) ≡ plan_with d (cond (head.merging == 0) (new_merge head (diffs.names_of d)) (unfinished_merge head (diffs.names_of d) (slice_get head.slots (open_slots head.slots))))
   planned_by =
       ap (λ (r : Result MemHeader Refusal). plan_by r (diff_found (Some file))) base_is
       ∙ ap (plan_by (Ok head)) (files.found_again file d diff)
-      ∙ ap (λ (b : Bool). plan_with d (cond (not b) (Err refusal.SizesDiffer) (cond (head.merging == 0) (new_merge head (diffs.header_of d)) (unfinished_merge head (diffs.header_of d) (slice_get head.slots (open_slots head.slots))))))
+      ∙ ap (λ (b : Bool). plan_with d (cond (not b) (Err refusal.SizesDiffer) (cond (head.merging == 0) (new_merge head (diffs.names_of d)) (unfinished_merge head (diffs.names_of d) (slice_get head.slots (open_slots head.slots))))))
       (eq-eqb d.pages head.pages (pages ∙ sym holds.pages))
 
-  planned_new : head.merging ≡ 0 → planned (Some given) (Some file) ≡ plan_with d (new_merge head (diffs.header_of d))
+  planned_new : head.merging ≡ 0 → planned (Some given) (Some file) ≡ plan_with d (new_merge head (diffs.names_of d))
   planned_new settled =
       planned_by
-      ∙ ap (λ (n : ℕ). plan_with d (cond (n == 0) (new_merge head (diffs.header_of d)) (unfinished_merge head (diffs.header_of d) (slice_get head.slots (open_slots head.slots))))) settled
+      ∙ ap (λ (n : ℕ). plan_with d (cond (n == 0) (new_merge head (diffs.names_of d)) (unfinished_merge head (diffs.names_of d) (slice_get head.slots (open_slots head.slots))))) settled
 
   pub is_begun_by : head.merging ≡ 0 → d.parent ≡ m.identity → open_slots head.slots < 100 → planned (Some given) (Some file) ≡ Ok (record { diff = d; merge = Begin (open_slots head.slots) })
   is_begun_by settled parent left =

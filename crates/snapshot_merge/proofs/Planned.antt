@@ -1,5 +1,5 @@
 -- What is found under two names.
-use Rattle.std.proofs.Common.{◌≡◌, ◌≢◌, ℕ, ◌+◌, ◌*◌, ◌≤◌, Bool, true, false, cond, not, List, length, drop, take, get_or, Option, Some, None, Result, Ok, Err, refl, sym, ap, subst, ◌∙◌, arith}
+use Rattle.std.proofs.Common.{◌≡◌, ◌≢◌, ℕ, ◌+◌, ◌≤◌, Bool, true, false, cond, not, List, length, drop, take, get_or, Option, Some, None, Result, Ok, Err, refl, sym, ap, subst, ◌∙◌, arith}
 use Rattle.std.specs.Str.{bytes_eq}
 use Rattle.std.proofs.lemmas.List.{get_or-drop, get_or-take}
 use Rattle.std.proofs.lemmas.Slice.Eq.{bytes_eq-Decides}
@@ -16,9 +16,12 @@ use Rattle.vm_outside.specs.Filing.{IsReadAt}
 use Rattle.gate_file.specs.Reading.{start_of}
 use Rattle.snap_memory.specs.declared.header.MemHeader.{MemHeader}
 use Rattle.snap_diff.specs.declared.header.DiffHeader.{DiffHeader}
+use Rattle.snap_diff.specs.declared.header.DiffNames.{DiffNames}
+use Rattle.snap_diff.specs.declared.run.Run.{Run}
 use Rattle.snap_diff.specs.Copies.{DiffCopy}
-use Rattle.snap_diff.specs.Diffs.{Begins}
-use Rattle.snap_diff.specs.Headers.{header_of}
+use Rattle.snap_diff.specs.Runs.{numbers_of}
+use Rattle.snap_diff.specs.Diffs.{Begins, size_behind}
+use Rattle.snap_diff.specs.Headers.{names_of}
 use Rattle.snap_diff.specs.Found.{diff_found, header_read}
 use Rattle.snapshot_merge.specs.declared.merge.Merge.{Merge}
 use Rattle.snapshot_merge.specs.declared.error.RebaseError.{RebaseError}
@@ -45,17 +48,17 @@ front_is None given bytes n there read size = absurd read
 front_is (Some found) given bytes n there read size =
     let same : found ≡ given = cc in read.1 ∙ ap (λ (k : ℕ). take k found) size ∙ ap (take n) same
 
-pub table_err : (given bytes : List ℕ) (h : DiffHeader) (why : RebaseError) → TableJudged given h bytes (Err why)
+pub table_err : (given : List ℕ) (h : DiffHeader) (why : RebaseError) → TableJudged given h (Err why)
     → Answers (IsStartOf given) (Err why) (diff_found (Some given))
-table_err given bytes h (Refused why) is = is
-table_err given bytes h Fault is = tt
-table_err given bytes h OutOfMemory is = tt
+table_err given h (Refused why) is = is
+table_err given h Fault is = tt
+table_err given h OutOfMemory is = tt
 
 -- a diff is what its table says, and as its front begins
 pub diff_of_table : (size : ℕ) (front : List ℕ) (o : Option (List ℕ)) (h : DiffHeader) (r : Result DiffStart RebaseError)
     → ◌≡◌ {A = Option (ℕ × List ℕ)} (Some (size, front)) (option_map (start_of 64) o)
     → ((given : List ℕ) → front ≡ take 64 given → size ≡ length given → StartJudged given (Ok h))
-    → ((given : List ℕ) → o ≡ Some given → Begins (take 64 given) h → length given ≡ 64 + 4100 * h.count → Answers (IsStartOf given) r (diff_found (Some given)))
+    → ((given : List ℕ) → o ≡ Some given → Begins (take 64 given) h → length given ≡ 64 + size_behind h → Answers (IsStartOf given) r (diff_found (Some given)))
     → Answers (IsStartIn o) r (diff_found o)
 diff_of_table size front None h r is begins judged = absurd cc
 diff_of_table size front (Some given) h r is begins judged =
@@ -63,9 +66,14 @@ diff_of_table size front (Some given) h r is begins judged =
     let start = begins given (ap (λ (p : ℕ × List ℕ). p.1) same) (ap (λ (p : ℕ × List ℕ). p.0) same) in
     judged given refl start.0 start.1
 
-start_header : (o : Option (List ℕ)) (start : DiffStart) (d : DiffCopy) → IsStartIn o start d → start.header ≡ header_of d
-start_header None start d is = absurd is
-start_header (Some given) start d is = is.header
+pub start_names : (o : Option (List ℕ)) (start : DiffStart) (d : DiffCopy) → IsStartIn o start d → start.header.names ≡ names_of d
+start_names None start d is = absurd is
+start_names (Some given) start d is = ap (λ (h : DiffHeader). h.names) is.header ∙ sym (ap names_of is.file.copy)
+
+pub pages_counted : (o : Option (List ℕ)) (start : DiffStart) (d : DiffCopy) → IsStartIn o start d → length (numbers_of start.runs) ≡ length d.numbers
+pages_counted None start d is = absurd is
+pages_counted (Some given) start d is =
+    ap (λ (runs : List Run). length (numbers_of runs)) is.runs ∙ sym (ap (λ (c : DiffCopy). length c.numbers) is.file.copy)
 
 -- both, of which the base was found before
 pub both_good : (b : Result MemHeader Refusal) (o p : Option (List ℕ)) (h what : MemHeader) (start : DiffStart) (d : DiffCopy) → o ≡ p → b ≡ Ok what → h ≡ what → diff_found o ≡ Ok d → IsStartIn o start d
@@ -79,21 +87,21 @@ both_good b o p h what start d same base base_is diff is = (
 )
 
 module _ (r : Result (MemHeader × DiffCopy) Refusal) (both : MemHeader × DiffCopy) (pair : Pair) (o : Option (List ℕ)) (found : r ≡ Ok both) (is : IsPairIn o pair both) where
-  merges_as : plan_of r ≡ plan_with both.1 (merge_of pair.base pair.diff.header)
+  merges_as : plan_of r ≡ plan_with both.1 (merge_of pair.base pair.diff.header.names)
   merges_as =
-      ap plan_of found ∙ ap (λ (g : MemHeader). plan_with both.1 (merge_of g (header_of both.1))) (sym is.base)
-      ∙ ap (λ (g : DiffHeader). plan_with both.1 (merge_of pair.base g)) (sym (start_header o pair.diff both.1 is.start))
+      ap plan_of found ∙ ap (λ (g : MemHeader). plan_with both.1 (merge_of g (names_of both.1))) (sym is.base)
+      ∙ ap (λ (g : DiffNames). plan_with both.1 (merge_of pair.base g)) (sym (start_names o pair.diff both.1 is.start))
 
-  pub plan_good : (m : Merge) → Ok m ≡ merge_of pair.base pair.diff.header → plan_of r ≡ Ok (record { diff = both.1; merge = m })
+  pub plan_good : (m : Merge) → Ok m ≡ merge_of pair.base pair.diff.header.names → plan_of r ≡ Ok (record { diff = both.1; merge = m })
   plan_good m merges = merges_as ∙ ap (plan_with both.1) (sym merges)
 
-  pub plan_bad : (why : Refusal) → Err why ≡ merge_of pair.base pair.diff.header → plan_of r ≡ Err why
+  pub plan_bad : (why : Refusal) → Err why ≡ merge_of pair.base pair.diff.header.names → plan_of r ≡ Err why
   plan_bad why merges = merges_as ∙ ap (plan_with both.1) (sym merges)
 
-  pub merged_as : merged_by r ≡ was_merged pair.base pair.diff.header
+  pub merged_as : merged_by r ≡ was_merged pair.base pair.diff.header.names
   merged_as =
-      ap merged_by found ∙ ap (λ (g : MemHeader). was_merged g (header_of both.1)) (sym is.base)
-      ∙ ap (λ (g : DiffHeader). was_merged pair.base g) (sym (start_header o pair.diff both.1 is.start))
+      ap merged_by found ∙ ap (λ (g : MemHeader). was_merged g (names_of both.1)) (sym is.base)
+      ∙ ap (λ (g : DiffNames). was_merged pair.base g) (sym (start_names o pair.diff both.1 is.start))
 
 -- ---- where a plan is found
 

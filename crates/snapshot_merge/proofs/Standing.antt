@@ -1,9 +1,8 @@
 -- Where a merge can stand, what its stages may leave from there, and what they come to.
-use Rattle.std.proofs.Common.{◌≡◌, ◌≢◌, ◌⊎◌, ℕ, ◌+◌, ◌*◌, ◌<◌, ◌≤◌, ◌==◌, ◌&&◌, Bool, true, false, cond, not, List, [], ◌∷◌, ◌++◌, length, drop, get_or, Option, Some, Ok, Err, refl, sym, ◌∙◌, ap, subst, arith, inl, inr, ⊎_elim, length-append}
+use Rattle.std.proofs.Common.{◌≡◌, ◌≢◌, ◌⊎◌, ℕ, ◌+◌, ◌*◌, ◌<◌, ◌≤◌, ◌==◌, ◌&&◌, Bool, true, false, cond, not, List, [], ◌∷◌, ◌++◌, length, get_or, Option, Some, Ok, Err, refl, sym, ◌∙◌, ap, subst, arith, inl, inr, ⊎_elim, length-append}
 use Rattle.std.specs.Prelude.{nat_lt, slice_get}
 use Rattle.std.specs.List.{list_any}
 use Rattle.std.proofs.lemmas.Bool.{and_parts, cases_Bool, eqb-false, eqb-true, ltb-true, ne_eqb}
-use Rattle.std.proofs.lemmas.List.{drop_at}
 use Rattle.vm_types.specs.Saved.{written}
 use Rattle.vm_types.specs.declared.identity.Identity.{Identity}
 use Rattle.refusals.specs.declared.refusal.Refusal.TheVariants as refusal
@@ -16,13 +15,10 @@ use Rattle.snap_memory.specs.Headers as memory
 use Rattle.snap_memory.specs.Slots.{is_open}
 use Rattle.snap_memory.proofs.Fronts.{length-header}
 use Rattle.snap_diff.specs.Copies.{DiffCopy, Joins, MemoryCopy, overlaid, rises, with_pages}
-use Rattle.snap_diff.specs.Diffs.{IsDiffFile, table_bytes}
-use Rattle.snap_diff.specs.Headers.{header_of, is_header}
-use Rattle.snap_diff.specs.Headers as diffs
+use Rattle.snap_diff.specs.Diffs.{IsDiffFile}
+use Rattle.snap_diff.specs.Headers.{names_of}
 use Rattle.snap_diff.proofs.Files as files
-use Rattle.snap_diff.proofs.Fronts as fronts
 use Rattle.snap_diff.proofs.Laying.{outside}
-use Rattle.snap_diff.proofs.Tables.{bytes_behind, size_of_table}
 use Rattle.snapshot_merge.specs.declared.merge.Merge.{Merge}
 use Rattle.snapshot_merge.specs.declared.merge.Merge.TheVariants.{Begin, GoOn, Finish}
 use Rattle.snapshot_merge.specs.Calls.{filling, marking, naming, opening, page_writes, slot_at, stages}
@@ -48,7 +44,7 @@ module _ (m : MemoryCopy) (d : DiffCopy) (joins : Joins m d) (file : List ℕ) (
 
   pub header_tests : (is_numbered d.identity ≡ true) × (not (is_same d.parent d.identity) ≡ true)
   header_tests =
-      let header = (and_parts (is_header (header_of d)) (rises d.pages 0 d.numbers) is_d.valid).0 in
+      let header = files.names_good file d is_d in
       let both = and_parts (is_numbered d.parent && is_numbered d.identity) (not (is_same d.parent d.identity)) header in
       ((and_parts (is_numbered d.parent) (is_numbered d.identity) both.0).1, both.1)
 
@@ -59,15 +55,10 @@ module _ (m : MemoryCopy) (d : DiffCopy) (joins : Joins m d) (file : List ℕ) (
   diff_size = (files.whole file d is_d).size
 
   name_fits : identity.Fits d.identity
-  name_fits = slots.identity_fits (header_of d) (files.parts_fit d is_d.fits).0
+  name_fits = slots.identity_fits (names_of d) (files.names_fit file d is_d)
 
   pages_are : IsBytes d.bytes
-  pages_are =
-      let rest : drop 64 file ≡ table_bytes d.numbers ++ d.bytes =
-      ap (drop 64) (is_d.bytes ∙ files.bytes_of d) ∙ drop_at (diffs.header.bytes (header_of d)) (table_bytes d.numbers ++ d.bytes) 64 (fronts.length-header (header_of d)) in
-      let behind : drop (4 * length d.numbers) (drop 64 file) ≡ d.bytes =
-      ap (drop (4 * length d.numbers)) rest ∙ drop_at (table_bytes d.numbers) d.bytes (4 * length d.numbers) (size_of_table d.numbers) in
-      subst IsBytes behind (bytes_behind (4 * length d.numbers) (drop 64 file) (bytes_behind 64 file of))
+  pages_are = files.copy_of_bytes file d is_d of
 
   -- ---- where it stands
 
@@ -460,17 +451,17 @@ module _ (m : MemoryCopy) (d : DiffCopy) (joins : Joins m d) (file : List ℕ) (
       let slot_is : is_same b.next.identity d.identity ≡ true = ap (λ (i : Identity). is_same i d.identity) b.same ∙ slots.same_identity d.identity in
       let parent_is : is_same d.parent (memory.identity_of b.head) ≡ true = ap (λ (i : Identity). is_same d.parent i) (b.holds.identity ∙ sym joins.parent) ∙ slots.same_identity d.parent in
       slots.planned_by text file b.head copy d b.holds is_d joins.pages
-      ∙ ap (λ (c : Bool). plan_with d (cond c (new_merge b.head (header_of d)) (unfinished_merge b.head (header_of d) (slice_get b.head.slots (open_slots b.head.slots))))) b.unsettled
-      ∙ ap (λ (o : Option Slot). plan_with d (unfinished_merge b.head (header_of d) o)) b.there
-      ∙ ap (λ (c : Bool). plan_with d (cond c (done_merge b.head (header_of d)) (begun_merge b.head (header_of d) b.next))) number
+      ∙ ap (λ (c : Bool). plan_with d (cond c (new_merge b.head (names_of d)) (unfinished_merge b.head (names_of d) (slice_get b.head.slots (open_slots b.head.slots))))) b.unsettled
+      ∙ ap (λ (o : Option Slot). plan_with d (unfinished_merge b.head (names_of d) o)) b.there
+      ∙ ap (λ (c : Bool). plan_with d (cond c (done_merge b.head (names_of d)) (begun_merge b.head (names_of d) b.next))) number
       ∙ ap (λ (c : Bool). plan_with d (cond c (Ok (GoOn (open_slots b.head.slots))) (Err refusal.MergeUnfinished))) (ap (λ (c : Bool). c && is_same d.parent (memory.identity_of b.head)) slot_is ∙ parent_is)
 
   full_plan : (text : List ℕ) (f : Full text) → (f.head.merging == 0) ≡ false → planned (Some text) (Some file) ≡ Ok (record { diff = d; merge = Finish })
   full_plan text f unsettled =
       let same : is_same (memory.identity_of f.head) d.identity ≡ true = ap (λ (i : Identity). is_same i d.identity) f.holds.identity ∙ slots.same_identity d.identity in
       slots.planned_by text file f.head (overlaid m d) d f.holds is_d joins.pages
-      ∙ ap (λ (c : Bool). plan_with d (cond c (new_merge f.head (header_of d)) (unfinished_merge f.head (header_of d) (slice_get f.head.slots (open_slots f.head.slots))))) unsettled
-      ∙ ap (plan_with d) (free_is_done f.head (header_of d) (slice_get f.head.slots (open_slots f.head.slots)) f.free)
+      ∙ ap (λ (c : Bool). plan_with d (cond c (new_merge f.head (names_of d)) (unfinished_merge f.head (names_of d) (slice_get f.head.slots (open_slots f.head.slots))))) unsettled
+      ∙ ap (plan_with d) (free_is_done f.head (names_of d) (slice_get f.head.slots (open_slots f.head.slots)) f.free)
       ∙ ap (λ (c : Bool). plan_with d (cond c (Ok Finish) (Err refusal.MergeUnfinished))) same
 
   pub full_file : (text : List ℕ) (f : Full text) → f.head.merging ≡ 0 → IsMemoryFile text (overlaid m d)

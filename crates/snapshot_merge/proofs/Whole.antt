@@ -1,5 +1,5 @@
 -- A merge from its first sync on.
-use Rattle.std.proofs.Common.{◌≡◌, ℕ, List, [], ◌∷◌, ◌++◌, Option, Some, None, Result, Ok, Err, sym, ap, subst, ◌∙◌}
+use Rattle.std.proofs.Common.{◌≡◌, ℕ, List, [], ◌∷◌, ◌++◌, Option, Some, Result, Ok, Err, sym, ap, subst, ◌∙◌}
 use Rattle.std.specs.Prelude.{OnErr, OnOk}
 use Rattle.std.specs.FinMap.{get, insert}
 use Rattle.vm_types.specs.Saved.{Saved}
@@ -11,7 +11,7 @@ use Rattle.gate_file.specs.Runs.{RunsAll, RunsPart}
 use Rattle.gate_file.proofs.Steps.{sync_part, sync_runs, there_after}
 use Rattle.file_format.specs.Identities.{identity}
 use Rattle.snap_diff.specs.Copies.{DiffCopy}
-use Rattle.snap_diff.specs.declared.header.DiffHeader.{DiffHeader}
+use Rattle.snap_diff.specs.declared.header.DiffNames.{DiffNames}
 use Rattle.snapshot_merge.specs.declared.finding.DiffStart.{DiffStart}
 use Rattle.snapshot_merge.specs.declared.merge.Merge.{Merge}
 use Rattle.snapshot_merge.specs.declared.merge.Merge.TheVariants.{Begin, GoOn, Finish}
@@ -19,7 +19,8 @@ use Rattle.snapshot_merge.specs.Answering.{AreThere, IsStartIn}
 use Rattle.gate_file.specs.Stages.{calls_of, stage_calls, text_after}
 use Rattle.snapshot_merge.specs.Calls.{filling, marking, naming, slot_at, stages}
 use Rattle.snapshot_merge.specs.Plans.{Plan}
-use Rattle.snapshot_merge.proofs.Paging.{still_there}
+use Rattle.snapshot_merge.proofs.PagingRuns.{still_there}
+use Rattle.snapshot_merge.proofs.Planned.{start_names}
 use Rattle.snapshot_merge.proofs.Staged.{later_fails, others_fail, stage_fails, stage_then, stages_fail, stages_then}
 
 pub ok_map : {T E : Type 0} (r : Result T E) (P Q : Type 0) → (P → Q) → OnOk r P → OnOk r Q
@@ -30,9 +31,8 @@ pub err_map : {T E : Type 0} (r : Result T E) (P Q : Type 0) → (P → Q) → O
 err_map (Ok v) P Q f h = tt
 err_map (Err e) P Q f h = f h
 
-pub name_is : (o : Option (List ℕ)) (start : DiffStart) (d : DiffCopy) (name : List ℕ) → IsStartIn o start d → name ≡ identity.bytes start.header.identity → name ≡ identity.bytes d.identity
-name_is None start d name is same = absurd is
-name_is (Some given) start d name is same = same ∙ ap (λ (h : DiffHeader). identity.bytes h.identity) is.header
+pub name_is : (o : Option (List ℕ)) (start : DiffStart) (d : DiffCopy) (name : List ℕ) → IsStartIn o start d → name ≡ identity.bytes start.header.names.identity → name ≡ identity.bytes d.identity
+name_is o start d name is same = same ∙ ap (λ (n : DiffNames). identity.bytes n.identity) (start_names o start d is)
 
 -- the first two stages of a merge from its beginning
 abbrev pub beginning : ℕ → List ℕ → List (List (ℕ × List ℕ))

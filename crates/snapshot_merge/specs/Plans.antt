@@ -5,7 +5,7 @@ use Rattle.vm_types.specs.Saved.{Saved}
 use Rattle.refusals.specs.declared.refusal.Refusal.{Refusal}
 use Rattle.snap_memory.specs.declared.header.MemHeader.{MemHeader}
 use Rattle.snap_diff.specs.Copies.{DiffCopy}
-use Rattle.snap_diff.specs.Headers.{header_of}
+use Rattle.snap_diff.specs.Headers.{names_of}
 use Rattle.snap_diff.specs.Found.{diff_found}
 use Rattle.snapshot_merge.specs.declared.merge.Merge.{Merge}
 use Rattle.snapshot_merge.specs.Bases.{base_found}
@@ -28,7 +28,7 @@ both_by (Ok base) (Ok d) = Ok (base, d)
 
 abbrev pub plan_of : Result (MemHeader × DiffCopy) Refusal → Result Plan Refusal
 plan_of (Err why) = Err why
-plan_of (Ok both) = plan_with both.1 (merge_of both.0 (header_of both.1))
+plan_of (Ok both) = plan_with both.1 (merge_of both.0 (names_of both.1))
 
 -- and then both together
 abbrev pub plan_by : Result MemHeader Refusal → Result DiffCopy Refusal → Result Plan Refusal
@@ -40,7 +40,7 @@ planned base diff = plan_by (base_found base) (diff_found diff)
 -- whether the diff was merged before
 abbrev pub merged_by : Result (MemHeader × DiffCopy) Refusal → Bool
 merged_by (Err why) = false
-merged_by (Ok both) = was_merged both.0 (header_of both.1)
+merged_by (Ok both) = was_merged both.0 (names_of both.1)
 
 -- by the names of the two files
 abbrev pub both_in : Saved → List ℕ → List ℕ → Result (MemHeader × DiffCopy) Refusal

@@ -1,21 +1,22 @@
 // What is found under the names of both files.
-ghost use Rattle.std.specs.Prelude.{◌≡◌, ◌+◌, ◌*◌, List, ℕ, Some, IfOk, length, take};
+ghost use Rattle.std.specs.Prelude.{◌≡◌, ◌+◌, IsTrue, List, ℕ, Some, IfOk, length, take};
 ghost use Rattle.std.specs.FinMap.{get};
-ghost use Rattle.guest_memory.specs.Ram.{page_size};
-ghost use Rattle.snap_diff.specs.Diffs.{Begins};
+ghost use Rattle.snap_diff.specs.Diffs.{Begins, is_table, size_behind};
 ghost use Rattle.snap_diff.specs.Found.{diff_found};
-ghost use Rattle.snapshot_merge.specs.Answering.{Answers, HasPages, IsPairIn, IsStartIn, IsStartOf, Same};
+ghost use Rattle.snapshot_merge.specs.Answering.{Answers, AreRunsOf, HasPages, IsHeader, IsPairIn, IsStartIn, IsStartOf, IsWhole, Same, TableJudged};
 ghost use Rattle.snapshot_merge.specs.Bases.{base_found};
 ghost use Rattle.snapshot_merge.specs.Plans.{both_in};
 ghost use Rattle.snapshot_merge.specs.Rebasing.{RebaseCause};
 ghost use Rattle.vm_outside.specs.Filing.{SameFiles};
 ghost use Rattle.vm_outside.specs.Known.{Lasts, Tells};
 
+use crate::checking::check_pages;
 use crate::error::RebaseError;
 use crate::judging::{failed_by, judge_base, judge_diff, judge_table};
+use file_format::Items;
 use gate_file::{read_front, read_start};
 use refusals::Refusal;
-use snap_diff::DiffHeader;
+use snap_diff::{DiffHeader, Run, count_pages};
 use snap_memory::MemHeader;
 use std::alloc::Global;
 use vm_outside::Files;
@@ -24,8 +25,7 @@ use vm_outside::Files;
 #[derive(Drop)]
 pub struct DiffStart {
     pub header: DiffHeader,
-    /// The header and the table of page numbers.
-    pub bytes: Vec<u8>,
+    pub runs: Items<Run>,
 }
 
 /// A base, and a diff of the same number of pages or of another.
@@ -50,12 +50,20 @@ fn find_base<F: Files>(alloc: Global, files: &mut F, name: &str) -> Result<MemHe
     }
 }
 
-// A diff before its pages.
-fn find_diff<F: Files>(alloc: Global, files: &mut F, name: &str) -> Result<DiffStart, RebaseError>
+/// A diff before its pages, whose stored pages have passed. Nothing is written.
+///
+/// Errors: `Refused` by the first that fits: no such file, its gate, its magic, a field. `Fault` where a call on the files
+/// failed.
+pub fn find_diff<F: Files>(
+    alloc: Global,
+    files: &mut F,
+    name: &str,
+) -> Result<DiffStart, RebaseError>
     ensures finds { Tells (F.known files.old).health →
         Answers (IsStartIn (get (F.known files.old).saved name.now)) result
         (diff_found (get (F.known files.old).saved name.now)) }
-    ensures size { IfOk result (λ start. length start.bytes.items ≡ 64 + 4 * start.header.count) }
+    ensures table { IfOk result (λ start. IsTrue (is_table start.header start.runs)) }
+    ensures whole { IfOk result (λ start. IsWhole start.header start.runs) }
     ensures same { Tells (F.known files.old).health → SameFiles (F.known files.old) (F.known files.new) }
     ensures cause { RebaseCause result (F.known files.old).health.faults (F.known files.new).health.faults }
     ensures lasts { Lasts (F.known files.old).health (F.known files.new).health }
@@ -66,7 +74,7 @@ fn find_diff<F: Files>(alloc: Global, files: &mut F, name: &str) -> Result<DiffS
         Err(why) => return Err(failed_by(why)),
     };
     match judge_diff(alloc, start.size, &start.bytes) {
-        Ok(header) => read_table(alloc, files, name, header),
+        Ok(header) => find_rest(alloc, files, name, header),
         Err(why) => Err(why),
     }
 }
@@ -83,26 +91,32 @@ pub fn diff_pages<F: Files>(alloc: Global, files: &mut F, name: &str) -> Result<
     ensures lasts { Lasts (F.known files.old).health (F.known files.new).health }
 {
     match find_diff(alloc, files, name) {
-        Ok(start) => Ok(start.header.count),
+        Ok(start) => Ok(count_pages(&start.header, start.runs.as_slice())),
         Err(why) => Err(why),
     }
 }
 
-// The table behind a header, in a file that has as many bytes as the header says.
-fn read_table<F: Files>(
+// A diff whose file begins with this header, and has as many bytes as it says.
+fn find_rest<F: Files>(
     alloc: Global,
     files: &mut F,
     name: &str,
     header: DiffHeader,
 ) -> Result<DiffStart, RebaseError>
+    requires { IsHeader header }
     ensures finds { Tells (F.known files.old).health → (given : List ℕ) →
         get (F.known files.old).saved name.now ≡ Some given → Begins (take 64 given) header →
-        length given ≡ 64 + (4 + page_size) * header.count → Answers (IsStartOf given) result (diff_found (Some given)) }
-    ensures size { IfOk result (λ start. length start.bytes.items ≡ 64 + 4 * start.header.count) }
+        length given ≡ 64 + size_behind header → Answers (IsStartOf given) result (diff_found (Some given)) }
+    ensures table { IfOk result (λ start. IsTrue (is_table start.header start.runs)) }
+    ensures whole { IfOk result (λ start. IsWhole start.header start.runs) }
     ensures same { Tells (F.known files.old).health → SameFiles (F.known files.old) (F.known files.new) }
     ensures cause { RebaseCause result (F.known files.old).health.faults (F.known files.new).health.faults }
     ensures lasts { Lasts (F.known files.old).health (F.known files.new).health }
 {
+<<<<<<< f4895c43
+    match table_of(alloc, files, name, header) {
+        Ok(runs) => check_pages(alloc, files, name, DiffStart { header, runs }),
+=======
     let front = DiffHeader::SIZE as u64 + 4 * header.count as u64;
     let bytes = match read_front(alloc, files, name, front) {
         Ok(bytes) => bytes,
@@ -110,7 +124,31 @@ fn read_table<F: Files>(
     };
     match judge_table(header, &bytes) {
         Ok(()) => Ok(DiffStart { header, bytes }),
+>>>>>>> m
         Err(why) => Err(why),
+    }
+}
+
+// The runs of the table behind a header, in a file that has as many bytes as the header says.
+fn table_of<F: Files>(
+    alloc: Global,
+    files: &mut F,
+    name: &str,
+    header: DiffHeader,
+) -> Result<Items<Run>, RebaseError>
+    ensures finds { Tells (F.known files.old).health → (given : List ℕ) →
+        get (F.known files.old).saved name.now ≡ Some given → Begins (take 64 given) header →
+        length given ≡ 64 + size_behind header → TableJudged given header result }
+    ensures runs { IfOk result (λ runs. AreRunsOf header runs) }
+    ensures table { IfOk result (λ runs. IsTrue (is_table header runs)) }
+    ensures same { Tells (F.known files.old).health → SameFiles (F.known files.old) (F.known files.new) }
+    ensures cause { RebaseCause result (F.known files.old).health.faults (F.known files.new).health.faults }
+    ensures lasts { Lasts (F.known files.old).health (F.known files.new).health }
+{
+    let front = DiffHeader::SIZE as u64 + header.table_size();
+    match read_front(alloc, files, name, front) {
+        Ok(bytes) => judge_table(alloc, header, &bytes),
+        Err(why) => Err(failed_by(why)),
     }
 }
 
@@ -124,8 +162,7 @@ pub(crate) fn find<F: Files>(
     ensures finds { Tells (F.known files.old).health →
         Answers (IsPairIn (get (F.known files.old).saved diff.now)) result
         (both_in (F.known files.old).saved base.now diff.now) }
-    ensures size { IfOk result (λ pair.
-        length pair.diff.bytes.items ≡ 64 + 4 * pair.diff.header.count) }
+    ensures table { IfOk result (λ pair. IsTrue (is_table pair.diff.header pair.diff.runs)) }
     ensures same { Tells (F.known files.old).health → SameFiles (F.known files.old) (F.known files.new) }
     ensures cause { RebaseCause result (F.known files.old).health.faults (F.known files.new).health.faults }
     ensures lasts { Lasts (F.known files.old).health (F.known files.new).health }

@@ -1,9 +1,10 @@
 // What the bytes of files are found as.
-ghost use Rattle.std.specs.Prelude.{◌≡◌, ◌+◌, ◌*◌, List, ℕ, length, take};
-ghost use Rattle.guest_memory.specs.Ram.{page_size};
-ghost use Rattle.snap_diff.specs.Diffs.{Begins};
+ghost use Rattle.std.specs.Prelude.{◌≡◌, ◌+◌, IfOk, IsTrue, List, ℕ, length, take};
+ghost use Rattle.snap_diff.specs.Diffs.{Begins, is_table, size_behind, table_size};
 ghost use Rattle.snapshot_merge.specs.Answering.{
   Answers,
+  AreRunsOf,
+  IsHeader,
   Same,
   StartJudged,
   TableJudged,
@@ -14,11 +15,11 @@ ghost use Rattle.snapshot_merge.specs.Bases.{base_front, base_sized};
 ghost use Rattle.snapshot_merge.specs.Rebasing.{RebaseCause};
 
 use crate::error::RebaseError;
-use file_format::DecodeError;
+use file_format::{DecodeError, Items, ReadError};
 use gate_file::FileError;
 use guest_memory::PAGE_SIZE;
 use refusals::Refusal;
-use snap_diff::{DiffHeader, check_table};
+use snap_diff::{DiffHeader, Run, read_table};
 use snap_memory::MemHeader;
 use std::alloc::Global;
 
@@ -67,6 +68,7 @@ fn size_base(size: u64, header: MemHeader) -> Result<MemHeader, RebaseError>
 /// The first bytes of a diff of this size.
 pub(crate) fn judge_diff(alloc: Global, size: u64, front: &[u8]) -> Result<DiffHeader, RebaseError>
     ensures judged { (given : List ℕ) → front.now ≡ take 64 given → size ≡ length given → StartJudged given result }
+    ensures header { IfOk result (λ h. IsHeader h) }
     ensures cause { (n : ℕ) → RebaseCause result n n }
 {
     match DiffHeader::read(alloc, front) {
@@ -76,26 +78,44 @@ pub(crate) fn judge_diff(alloc: Global, size: u64, front: &[u8]) -> Result<DiffH
 }
 
 fn size_diff(size: u64, header: DiffHeader) -> Result<DiffHeader, RebaseError>
+    requires { IsHeader header }
     ensures judged { (given : List ℕ) → Begins (take 64 given) header → size ≡ length given → StartJudged given result }
+    ensures header { IfOk result (λ h. IsHeader h) }
     ensures cause { (n : ℕ) → RebaseCause result n n }
 {
+<<<<<<< f4895c43
+    if size == DiffHeader::SIZE as u64 + header.size_behind() {
+=======
     if size == DiffHeader::SIZE as u64 + (4 + PAGE_SIZE as u64) * header.count as u64 {
+>>>>>>> m
         Ok(header)
     } else {
         Err(RebaseError::Refused(Refusal::BadField))
     }
 }
 
-/// The header and the table of a diff, in a file that has as many bytes as the header says.
-pub(crate) fn judge_table(header: DiffHeader, bytes: &[u8]) -> Result<(), RebaseError>
-    requires { length bytes.now ≡ 64 + 4 * header.count }
-    ensures judged { (given : List ℕ) → bytes.now ≡ take (64 + 4 * header.count) given →
-        Begins (take 64 given) header → length given ≡ 64 + (4 + page_size) * header.count →
-        TableJudged given header bytes.now result }
+/// The runs of a diff, by the front of a file that has as many bytes as its header says: the header and the table.
+pub(crate) fn judge_table(
+    alloc: Global,
+    header: DiffHeader,
+    bytes: &[u8],
+) -> Result<Items<Run>, RebaseError>
+    requires { length bytes.now ≡ 64 + table_size header }
+    ensures judged { (given : List ℕ) → bytes.now ≡ take (64 + table_size header) given →
+        Begins (take 64 given) header → length given ≡ 64 + size_behind header → TableJudged given header result }
+    ensures runs { IfOk result (λ runs. AreRunsOf header runs) }
+    ensures table { IfOk result (λ runs. IsTrue (is_table header runs)) }
     ensures cause { (n : ℕ) → RebaseCause result n n }
 {
+<<<<<<< f4895c43
+    match read_table(alloc, &header, &bytes[DiffHeader::SIZE..]) {
+        Ok(runs) => Ok(runs),
+        Err(ReadError::Bad) => Err(RebaseError::Refused(Refusal::BadField)),
+        Err(ReadError::Memory) => Err(RebaseError::OutOfMemory),
+=======
     match check_table(&bytes[DiffHeader::SIZE..], header.pages) {
         Ok(()) => Ok(()),
         Err(_) => Err(RebaseError::Refused(Refusal::BadField)),
+>>>>>>> m
     }
 }

@@ -6,6 +6,7 @@
 //! the first of these calls. `law` says that what is left is the encoding of the copy that the diff makes.
 #![tactic(auto)]
 
+mod checking;
 mod error;
 mod finding;
 mod judging;
@@ -16,7 +17,7 @@ mod room;
 mod stages;
 
 pub use error::RebaseError;
-pub use finding::diff_pages;
+pub use finding::{DiffStart, diff_pages, find_diff};
 pub use law::{merged, merged_in_order, stops};
 pub use merge::{Merge, merge_of};
 pub use rebasing::rebase;

@@ -13,7 +13,7 @@ ghost use Rattle.snapshot_merge.specs.Merges.{
 
 use file_format::is_same;
 use refusals::Refusal;
-use snap_diff::DiffHeader;
+use snap_diff::DiffNames;
 use snap_memory::{MemHeader, Slot};
 
 const SLOTS: u32 = 100;
@@ -29,9 +29,9 @@ pub enum Merge {
     Finish,
 }
 
-/// What is left to do of the merge of a diff of this header into a base of this header, or why it is refused: other
+/// What is left to do of the merge of a diff of these names into a base of this header, or why it is refused: other
 /// pages, a parent that isn't the base's identity, no slot that is left, or another merge that is unfinished.
-pub fn merge_of(base: &MemHeader, diff: &DiffHeader) -> Result<Merge, Refusal>
+pub fn merge_of(base: &MemHeader, diff: &DiffNames) -> Result<Merge, Refusal>
     ensures { result ≡ merge_of base.now diff.now }
 {
     if diff.pages != base.pages {
@@ -44,9 +44,9 @@ pub fn merge_of(base: &MemHeader, diff: &DiffHeader) -> Result<Merge, Refusal>
     }
 }
 
-/// Whether a diff of this header was merged into a base of this header before: no merge is unfinished, and the base has the
+/// Whether a diff of these names was merged into a base of this header before: no merge is unfinished, and the base has the
 /// diff's own identity.
-pub(crate) fn was_merged(base: &MemHeader, diff: &DiffHeader) -> bool
+pub(crate) fn was_merged(base: &MemHeader, diff: &DiffNames) -> bool
     ensures { result ≡ was_merged base.now diff.now }
 {
     diff.pages == base.pages && base.merging == 0 && is_same(base.identity(), diff.identity)
@@ -67,7 +67,7 @@ fn open_slots(slots: &[Slot]) -> u32
     count
 }
 
-fn new_merge(base: &MemHeader, diff: &DiffHeader) -> Result<Merge, Refusal>
+fn new_merge(base: &MemHeader, diff: &DiffNames) -> Result<Merge, Refusal>
     ensures { result ≡ new_merge base.now diff.now }
 {
     if !is_same(diff.parent, base.identity()) {
@@ -80,7 +80,7 @@ fn new_merge(base: &MemHeader, diff: &DiffHeader) -> Result<Merge, Refusal>
     Ok(Merge::Begin { slot })
 }
 
-fn unfinished_merge(base: &MemHeader, diff: &DiffHeader) -> Result<Merge, Refusal>
+fn unfinished_merge(base: &MemHeader, diff: &DiffNames) -> Result<Merge, Refusal>
     ensures { result ≡ unfinished_merge base.now diff.now (slice_get base.now.slots (open_slots base.now.slots)) }
 {
     let number = open_slots(&base.slots);
@@ -92,7 +92,7 @@ fn unfinished_merge(base: &MemHeader, diff: &DiffHeader) -> Result<Merge, Refusa
 
 fn begun_merge(
     base: &MemHeader,
-    diff: &DiffHeader,
+    diff: &DiffNames,
     slot: &Slot,
     number: u32,
 ) -> Result<Merge, Refusal>
@@ -106,7 +106,7 @@ fn begun_merge(
     }
 }
 
-fn done_merge(base: &MemHeader, diff: &DiffHeader) -> Result<Merge, Refusal>
+fn done_merge(base: &MemHeader, diff: &DiffNames) -> Result<Merge, Refusal>
     ensures { result ≡ done_merge base.now diff.now }
 {
     if is_same(base.identity(), diff.identity) {

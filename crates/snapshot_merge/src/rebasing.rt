@@ -1,5 +1,5 @@
 // A diff is merged into its base.
-ghost use Rattle.std.specs.Prelude.{◌≡◌, ◌+◌, ◌*◌, List, ℕ, Some, Ok, Err, length, OnErr, OnOk};
+ghost use Rattle.std.specs.Prelude.{◌≡◌, IsTrue, List, ℕ, Some, Ok, Err, length, OnErr, OnOk};
 ghost use Rattle.std.specs.FinMap.{get};
 ghost use Rattle.file_format.specs.Identities.{identity};
 ghost use Rattle.gate_file.specs.Runs.{RunsAll, RunsPart};
@@ -11,6 +11,7 @@ ghost use Rattle.snapshot_merge.specs.Plans.{Plan, both_in, merged_by, planned_i
 ghost use Rattle.snapshot_merge.specs.Rebasing.{RebaseCause, Rebases};
 ghost use Rattle.gate_file.specs.Stages.{LeftMeanwhile};
 ghost use Rattle.snap_diff.specs.Copies.{DiffCopy, MemoryCopy};
+ghost use Rattle.snap_diff.specs.Diffs.{is_table};
 ghost use Rattle.snapshot_merge.specs.Stops.{IsMerged, StandsOn, WasBegun};
 ghost use Rattle.vm_outside.specs.Crashes.{Disk};
 ghost use Rattle.vm_outside.specs.Known.{Called, Lasts, Tells};
@@ -81,9 +82,14 @@ fn rebase_files<F: Files>(
         Ok(pair) => pair,
         Err(why) => return Err(why),
     };
-    match merge_of(&pair.base, &pair.diff.header) {
+    match merge_of(&pair.base, &pair.diff.header.names) {
         Ok(rest) => run(alloc, files, base, diff, rest, &pair.diff),
-        Err(why) => refuse(files, base, why, was_merged(&pair.base, &pair.diff.header)),
+        Err(why) => refuse(
+            files,
+            base,
+            why,
+            was_merged(&pair.base, &pair.diff.header.names),
+        ),
     }
 }
 
@@ -115,7 +121,7 @@ fn run<F: Files>(
     rest: Merge,
     start: &DiffStart,
 ) -> Result<(), RebaseError>
-    requires table { length start.now.bytes.items ≡ 64 + 4 * start.now.header.count }
+    requires table { IsTrue (is_table start.now.header start.now.runs) }
     ensures rebased { Tells (F.known files.old).health → (plan : Plan) →
         planned_in (F.known files.old).saved base.now diff.now ≡ Ok plan → rest ≡ plan.merge →
         IsStartIn (get (F.known files.old).saved diff.now) start.now plan.diff →
@@ -123,7 +129,7 @@ fn run<F: Files>(
     ensures cause { RebaseCause result (F.known files.old).health.faults (F.known files.new).health.faults }
     ensures lasts { Lasts (F.known files.old).health (F.known files.new).health }
 {
-    let Ok(mut room) = Room::new(alloc, start.header.identity) else {
+    let Ok(mut room) = Room::new(alloc, start.header.names.identity) else {
         return Err(RebaseError::OutOfMemory);
     };
     match merge(files, base, diff, rest, start, &mut room) {
@@ -141,9 +147,9 @@ fn merge<F: Files>(
     start: &DiffStart,
     room: &mut Room,
 ) -> Result<(), Failed>
-    requires name { room.old.name.items ≡ identity.bytes start.now.header.identity }
+    requires name { room.old.name.items ≡ identity.bytes start.now.header.names.identity }
     requires room { length room.old.page.items ≡ 4096 }
-    requires table { length start.now.bytes.items ≡ 64 + 4 * start.now.header.count }
+    requires table { IsTrue (is_table start.now.header start.now.runs) }
     ensures done { OnOk result (Tells (F.known files.old).health → (plan : Plan) (text : List ℕ) →
         get (F.known files.old).saved base.now ≡ Some text → rest ≡ plan.merge →
         AreThere base.now diff.now start.now plan.diff (F.known files.old).saved →

@@ -1,17 +1,25 @@
 // The stages of a merge: writes to the base, and a sync behind them.
-ghost use Rattle.std.specs.Prelude.{◌≡◌, ◌+◌, ◌*◌, ◌∷◌, [], List, ℕ, Some, length, OnErr, OnOk};
+ghost use Rattle.std.specs.Prelude.{◌≡◌, ◌≢◌, ◌≤◌, ◌+◌, ◌*◌, ◌^◌, ◌∷◌, ◌++◌, [], IsTrue, if◌then◌else◌, List, ℕ, Some, drop, length, OnErr, OnOk};
 ghost use Rattle.std.specs.FinMap.{get};
 ghost use Rattle.file_format.specs.Identities.{identity};
 ghost use Rattle.gate_file.specs.Runs.{RunsAll, RunsPart};
+ghost use Rattle.gate_file.specs.Gate.{write_calls};
 ghost use Rattle.snap_diff.specs.Copies.{DiffCopy};
-ghost use Rattle.snapshot_merge.specs.Answering.{AreThere};
+ghost use Rattle.snap_diff.specs.Diffs.{is_table};
+ghost use Rattle.snapshot_merge.specs.Answering.{AreThere, IsPage, run_writes};
 ghost use Rattle.gate_file.specs.Stages.{calls_of, stage_calls, text_after, written_all};
 ghost use Rattle.snapshot_merge.specs.Calls.{filling, marking, naming, page_writes, slot_at};
+ghost use Rattle.vm_outside.specs.Calls.{FileCall};
+ghost use Rattle.vm_outside.specs.Filing.{SameFiles};
 ghost use Rattle.vm_outside.specs.Known.{Called, Tells};
 
 use crate::finding::DiffStart;
 use guest_memory::PAGE_SIZE;
+<<<<<<< f4895c43
+use snap_diff::{DiffHeader, Run};
+=======
 use snap_diff::{DiffHeader, table_page};
+>>>>>>> m
 use snap_memory::MemHeader;
 use vm_outside::{Failed, Files};
 
@@ -89,7 +97,7 @@ pub(crate) fn fill<F: Files>(
     page: &mut [u8],
 ) -> Result<(), Failed>
     requires room { length page.old ≡ 4096 }
-    requires table { length start.now.bytes.items ≡ 64 + 4 * start.now.header.count }
+    requires table { IsTrue (is_table start.now.header start.now.runs) }
     ensures done { OnOk result (Tells (F.known files.old).health → (d : DiffCopy) (text : List ℕ) →
         get (F.known files.old).saved base.now ≡ Some text →
         AreThere base.now diff.now start.now d (F.known files.old).saved →
@@ -116,7 +124,7 @@ fn put_pages<F: Files>(
     page: &mut [u8],
 ) -> Result<(), Failed>
     requires room { length page.old ≡ 4096 }
-    requires table { length start.now.bytes.items ≡ 64 + 4 * start.now.header.count }
+    requires table { IsTrue (is_table start.now.header start.now.runs) }
     ensures done { OnOk result (Tells (F.known files.old).health → (d : DiffCopy) (text : List ℕ) →
         get (F.known files.old).saved base.now ≡ Some text →
         AreThere base.now diff.now start.now d (F.known files.old).saved →
@@ -129,13 +137,97 @@ fn put_pages<F: Files>(
         (F.known files.old) (F.known files.new)) }
     ensures called { Called (F.known files.old).health (F.known files.new).health result }
 {
+<<<<<<< f4895c43
+    let _size = start.header.size_behind();
+    let mut at = DiffHeader::SIZE as u64 + start.header.table_size();
+    let runs = start.runs.as_slice();
+    for run in runs {
+        put_run(files, base, diff, at, run, page)?;
+        at += stored_bytes(run);
+=======
     let pages = DiffHeader::SIZE as u64 + 4 * start.header.count as u64;
     for i in 0..start.header.count {
         let number = table_page(&start.bytes[DiffHeader::SIZE..], i);
         files.read_at(diff, pages + (PAGE_SIZE as u64) * i as u64, page)?;
         let place = MemHeader::SIZE as u64 + PAGE_SIZE as u64 * number as u64;
         files.write_at(base, place, page)?;
+>>>>>>> m
     }
     files.sync(base)?;
     Ok(())
+}
+
+// How many bytes of a diff's file the pages of a run have.
+fn stored_bytes(run: &Run) -> u64
+    ensures { result ≡ 4096 * (if run.now.stored then run.now.length else 0) }
+{
+    if run.stored {
+        PAGE_SIZE as u64 * run.length as u64
+    } else {
+        0
+    }
+}
+
+// The pages of a run, one write each. Where they are stored they are read from this offset of the diff's file on.
+fn put_run<F: Files>(
+    files: &mut F,
+    base: &str,
+    diff: &str,
+    at: u64,
+    run: &Run,
+    page: &mut [u8],
+) -> Result<(), Failed>
+    requires early { at ≤ 2 ^ 62 }
+    requires room { length page.old ≡ 4096 }
+    ensures room { length page.new ≡ 4096 }
+    ensures done { OnOk result (Tells (F.known files.old).health → (text given : List ℕ) →
+        get (F.known files.old).saved base.now ≡ Some text → get (F.known files.old).saved diff.now ≡ Some given →
+        diff.now ≢ base.now →
+        RunsAll base.now (write_calls base.now (run_writes run.now (drop at given)))
+        (written_all (run_writes run.now (drop at given)) text) (F.known files.old) (F.known files.new)) }
+    ensures begun { OnErr result (Tells (F.known files.old).health → (text given : List ℕ) →
+        get (F.known files.old).saved base.now ≡ Some text → get (F.known files.old).saved diff.now ≡ Some given →
+        diff.now ≢ base.now → (more : List FileCall) → more ≢ [] →
+        RunsPart base.now (write_calls base.now (run_writes run.now (drop at given)) ++ more)
+        (F.known files.old) (F.known files.new)) }
+    ensures called { Called (F.known files.old).health (F.known files.new).health result }
+{
+    for i in 0..run.length {
+        fetch(
+            files,
+            diff,
+            run.stored,
+            at + PAGE_SIZE as u64 * i as u64,
+            page,
+        )?;
+        let number = run.first as u64 + i as u64;
+        files.write_at(
+            base,
+            MemHeader::SIZE as u64 + PAGE_SIZE as u64 * number,
+            page,
+        )?;
+    }
+    Ok(())
+}
+
+// A page of a diff: the bytes of its file from this offset on, or zeros.
+fn fetch<F: Files>(
+    files: &mut F,
+    diff: &str,
+    stored: bool,
+    at: u64,
+    page: &mut [u8],
+) -> Result<(), Failed>
+    ensures page { OnOk result (Tells (F.known files.old).health →
+        IsPage (get (F.known files.old).saved diff.now) stored at page.new) }
+    ensures room { length page.new ≡ length page.old }
+    ensures same { Tells (F.known files.old).health → SameFiles (F.known files.old) (F.known files.new) }
+    ensures called { Called (F.known files.old).health (F.known files.new).health result }
+{
+    if stored {
+        files.read_at(diff, at, page)
+    } else {
+        page.fill(0);
+        Ok(())
+    }
 }

@@ -1,5 +1,5 @@
 // The devices of a machine by their numbers.
-<<<<<<< 717b8584
+<<<<<<< f4895c43
 ghost use Rattle.std.specs.Prelude.{◌≡◌, ◌+◌, ◌≤◌, length};
 =======
 ghost use Rattle.std.specs.Prelude.{◌≡◌};
@@ -9,7 +9,7 @@ ghost use Rattle.vm_config.specs.Devices as devices;
 ghost use Rattle.vm_config.specs.Interfaces.{is_interface};
 
 use crate::config::Config;
-<<<<<<< 717b8584
+<<<<<<< f4895c43
 use api_calls::{Balloon, Interface, Vsock};
 
 fn vsock_count(vsock: &Option<Vsock>) -> usize
@@ -43,7 +43,7 @@ fn place_of(interfaces: &[Interface], id: &str) -> Option<usize>
 }
 
 impl Config {
-<<<<<<< 717b8584
+<<<<<<< f4895c43
     /// How many devices a machine has by what is configured: one for each drive and each interface, the vsock device and the balloon.
     pub fn device_count(&self) -> u128
         ensures { result ≡ devices.device_count self.now }
@@ -73,7 +73,7 @@ impl Config {
         Some(self.drives.as_slice().len() + place)
     }
 
-<<<<<<< 717b8584
+<<<<<<< f4895c43
     // How many devices there are beside the balloon.
     fn others(&self) -> usize
         ensures { result ≡ length self.now.drives + length self.now.interfaces + devices.vsock_count self.now.vsock }
@@ -90,7 +90,7 @@ impl Config {
         ensures { result ≡ devices.balloon_device self.now }
     {
         match self.balloon {
-<<<<<<< 717b8584
+<<<<<<< f4895c43
             Some(_) => Some(self.others()),
 =======
             Some(_) => Some(self.drives.as_slice().len() + self.interfaces.as_slice().len()),

@@ -9,7 +9,7 @@ abbrev pub statistics_of : Device → Option Statistics
 statistics_of (device.Balloon b) = Some b.kind.own.statistics
 statistics_of (device.Block b) = None
 statistics_of (device.Net n) = None
-<<<<<<< 717b8584
+<<<<<<< f4895c43
 statistics_of (device.Vsock v) = None
 =======
 >>>>>>> m

@@ -1,4 +1,4 @@
-<<<<<<< 717b8584
+<<<<<<< f4895c43
 pub mod Hearing
 pub mod Lines
 pub mod Narrow
@@ -9,7 +9,7 @@ pub mod Owes
 pub mod Pieces
 pub mod Ports
 pub mod Resuming
-<<<<<<< 717b8584
+<<<<<<< f4895c43
 pub mod Serving
 pub mod Small
 pub mod SmallTexts

@@ -5,7 +5,7 @@ pub mod Guest
 pub mod Host
 pub mod Lines
 pub mod Packets
-<<<<<<< 717b8584
+<<<<<<< f4895c43
 pub mod Port
 pub mod Reset
 pub mod Sequences

@@ -132,7 +132,7 @@ impl LiveMachine {
     }
 
     fn take_drives(&mut self, drives: Drives)
-<<<<<<< 717b8584
+<<<<<<< f4895c43
         requires fit { AreFitting drives self.old.config.interfaces self.old.config.vsock self.old.config.balloon }
 =======
         requires fit { AreFitting drives self.old.config.interfaces self.old.config.balloon }
@@ -144,7 +144,7 @@ impl LiveMachine {
     }
 
     fn take_interfaces(&mut self, interfaces: Interfaces)
-<<<<<<< 717b8584
+<<<<<<< f4895c43
         requires fit { AreLinked self.old.config.drives interfaces self.old.config.vsock self.old.config.balloon self.old.config.mmds }
 =======
         requires fit { AreLinked self.old.config.drives interfaces self.old.config.balloon }

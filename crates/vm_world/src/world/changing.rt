@@ -1,5 +1,5 @@
 // What the API changes of a world, and the Reset that comes before a create.
-<<<<<<< 717b8584
+<<<<<<< f4895c43
 ghost use Rattle.std.specs.Prelude.{◌≡◌, ◌≤◌, length, slice_get};
 ghost use Rattle.guest_devices.specs.Kept.{AreReset, devices_left};
 =======

@@ -16,7 +16,7 @@ fn statistics_of(device: &Device) -> Option<Statistics>
         Device::Balloon(balloon) => Some(balloon.state().kind.statistics()),
         Device::Block(_) => None,
         Device::Net(_) => None,
-<<<<<<< 717b8584
+<<<<<<< f4895c43
         Device::Vsock(_) => None,
 =======
 >>>>>>> m

@@ -1,4 +1,5 @@
-use Rattle.snap_diff.proofs.Files.{one, one_file, found_again, found_good, whole}
+use Rattle.snap_diff.proofs.Again.{one_file}
+use Rattle.snap_diff.proofs.Files.{one, found_again, found_good, whole}
 use Rattle.snap_diff.proofs.law.one_diff.Goals as goal
 
 pub returns-clause-one : goal.returns-clause-one

@@ -14,3 +14,6 @@ returns-in-Err-clause-judged c = λ given is size.
 pub returns-in-Err-clause-cause : goal.returns-in-Err-clause-cause
 returns-in-Err-clause-cause c = λ n.
     subst (λ (w : RebaseError). RebaseCause {T = DiffHeader} (Err w) n n) (sym c.refused_by.ensures) (refused_cause DiffHeader c.in-Err.why n)
+
+pub size_diff-requires : goal.size_diff-requires
+size_diff-requires c = record { fits = c.in-Ok.ensures.fits; names = c.in-Ok.ensures.valid }

@@ -1,5 +1,4 @@
-use Rattle.std.proofs.Common.{◌≡◌, List, ℕ, Some, drop, refl, sym, ◌∙◌, ap, arith}
-use Rattle.std.proofs.lemmas.List.{take_rest}
+use Rattle.std.proofs.Common.{◌≡◌, ◌+◌, List, ℕ, Some, refl, sym, ◌∙◌, ap, arith}
 use Rattle.std.specs.FinMap.{get}
 use Rattle.vm_outside.specs.Known.{Tells}
 use Rattle.gate_file.specs.Runs.{RunsPart}
@@ -8,63 +7,50 @@ use Rattle.snap_diff.specs.Copies.{DiffCopy}
 use Rattle.snapshot_merge.specs.Answering.{AreThere}
 use Rattle.gate_file.specs.Stages.{stage_calls}
 use Rattle.snapshot_merge.specs.Calls.{page_writes}
-use Rattle.snapshot_merge.proofs.Paging.{next_write, read_fails, same_wrote, sync_fails, write_fails, wrote_all, wrote_more, wrote_none}
+use Rattle.snapshot_merge.proofs.PagingRuns.{at_end, base_there, next_run, place_first, place_next, put_all, put_more, put_none, run_fails, still_diff, sync_fails}
 use Rattle.snapshot_merge.proofs.stages.put_pages.Goals as goal
 
-pub loop-i-init : goal.loop-i-init
-loop-i-init g c = record {
+pub loop-run-init : goal.loop-run-init
+loop-run-init g c = record {
   room = c.requires.room;
+  place = place_first c.args.start.now _ c.requires.table (ap (λ (n : ℕ). 64 + n) c.table_size.ensures.size);
   still = λ t. t;
   later = refl;
-  wrote = λ t d text there are. wrote_none c.args.base.now c.args.diff.now c.args.start.now d text _ there are;
+  put = λ t d text there are. put_none c.args.base.now c.args.diff.now c.args.start.now d text _ there are _ (ap (λ (n : ℕ). 64 + n) c.table_size.ensures.size);
 }
 
-pub returns-in_err-read_at-clause-begun : goal.returns-in_err-read_at-clause-begun
-returns-in_err-read_at-clause-begun g c =
+pub put_run-requires-clause-early : goal.put_run-requires-clause-early
+put_run-requires-clause-early g c = omega (arith, c.loop-run.invariant.place, c.size_behind.ensures.size, c.size_behind.ensures.most)
+
+pub returns-in_err-put_run-clause-begun : goal.returns-in_err-put_run-clause-begun
+returns-in_err-put_run-clause-begun g c =
     let known = g.F.Files.known in
     let base = c.args.base.now in
     let part : Tells (known c.args.files.now).health → (d : DiffCopy) (text : List ℕ) → get (known c.args.files.now).saved base ≡ Some text
     → AreThere base c.args.diff.now c.args.start.now d (known c.args.files.now).saved
-    → RunsPart base (stage_calls base (page_writes d.numbers d.bytes) text) (known c.args.files.now) (known c.read_at.new.self) = λ t d text there are.
-    read_fails base c.args.diff.now c.args.start.now d text _ there are c.loop-i.i _ _ (omega (arith, c.loop-i-test.true)) (c.loop-i.invariant.wrote t d text there are) (c.in_err-read_at.ensures.same (c.loop-i.invariant.still t)) in
+    → RunsPart base (stage_calls base (page_writes d.numbers d.bytes) text) (known c.args.files.now) (known c.put_run.new.files) = λ t d text there are.
+    let put = next_run base c.args.diff.now c.args.start.now d text _ there are c.loop-run.runs c.loop-run.run-index c.run-item.result c.loop-run.at _ c.loop-run-test.true c.run-item.is (c.loop-run.invariant.put t d text there are) in
+    run_fails base c.args.diff.now c.args.start.now d text _ there are c.run-item.result _ c.loop-run.at _ put _
+    (c.in_err-put_run.ensures.begun (c.loop-run.invariant.still t) _ _ (base_there base c.args.diff.now c.args.start.now d text _ there are c.run-item.result _ c.loop-run.at _ put)
+    (still_diff base c.args.diff.now c.args.start.now d text _ there are c.run-item.result _ c.loop-run.at _ put) are.differ) in
     on_err _ _ part
 
-pub returns-in_err-write_at-clause-begun : goal.returns-in_err-write_at-clause-begun
-returns-in_err-write_at-clause-begun g c =
-    let known = g.F.Files.known in
+pub loop-run-preserved : goal.loop-run-preserved
+loop-run-preserved g c =
     let base = c.args.base.now in
     let diff = c.args.diff.now in
     let start = c.args.start.now in
-    let i = c.loop-i.i in
-    let part : Tells (known c.args.files.now).health → (d : DiffCopy) (text : List ℕ) → get (known c.args.files.now).saved base ≡ Some text
-    → AreThere base diff start d (known c.args.files.now).saved
-    → RunsPart base (stage_calls base (page_writes d.numbers d.bytes) text) (known c.args.files.now) (known c.write_at.new.self) = λ t d text there are.
-    let so_far = c.loop-i.invariant.wrote t d text there are in
-    let told = c.loop-i.invariant.still t in
-    let next = next_write base diff start d text _ there are i c.table_page-number.result _ c.read_at.new.buf _ _ so_far
-    (take_rest c.deref.result.now 64 ∙ ap (drop 64) c.deref.ensures.value) c.table_page-number.ensures (c.in_ok-read_at.ensures.bytes told) refl (c.read_at.auto.buf ∙ c.loop-i.invariant.room) in
-    write_fails base diff start d text _ there are i _ c.read_at.new.buf _ _ (same_wrote base diff start d text _ there are i _ _ so_far (c.in_ok-read_at.ensures.same told)) next
-    (c.in_err-write_at.ensures.begun (c.read_at.ensures.called.lasts.still told)) in
-    on_err _ _ part
-
-pub loop-i-preserved : goal.loop-i-preserved
-loop-i-preserved g c =
-    let base = c.args.base.now in
-    let diff = c.args.diff.now in
-    let start = c.args.start.now in
-    let i = c.loop-i.i in
-    let so_far = c.loop-i.invariant in
+    let so_far = c.loop-run.invariant in
     record {
-      room = c.read_at.auto.buf ∙ so_far.room;
-      still = λ t. c.write_at.ensures.called.lasts.still (c.read_at.ensures.called.lasts.still (so_far.still t));
-      later = so_far.later ∙ sym c.in_ok-read_at.ensures.called.kept ∙ sym c.in_ok-write_at.ensures.called.kept;
-      wrote = λ t d text there are.
-          let told = so_far.still t in
-          let wrote = so_far.wrote t d text there are in
-          let next = next_write base diff start d text _ there are i c.table_page-number.result _ c.read_at.new.buf _ _ wrote
-          (take_rest c.deref.result.now 64 ∙ ap (drop 64) c.deref.ensures.value) c.table_page-number.ensures (c.in_ok-read_at.ensures.bytes told) refl (c.read_at.auto.buf ∙ so_far.room) in
-          wrote_more base diff start d text _ there are i _ c.read_at.new.buf _ _ (same_wrote base diff start d text _ there are i _ _ wrote (c.in_ok-read_at.ensures.same told)) next
-          (c.in_ok-write_at.ensures.written (c.read_at.ensures.called.lasts.still told));
+      room = c.put_run.ensures.room;
+      place = place_next c.loop-run.runs c.loop-run.run-index c.run-item.result c.loop-run.at _ _ c.loop-run-test.true c.run-item.is so_far.place (ap (λ (n : ℕ). c.loop-run.at + n) c.stored_bytes.ensures);
+      still = λ t. c.put_run.ensures.called.lasts.still (so_far.still t);
+      later = so_far.later ∙ sym c.in_ok-put_run.ensures.called.kept;
+      put = λ t d text there are.
+          let put = next_run base diff start d text _ there are c.loop-run.runs c.loop-run.run-index c.run-item.result c.loop-run.at _ c.loop-run-test.true c.run-item.is (so_far.put t d text there are) in
+          put_more base diff start d text _ there are c.run-item.result _ c.loop-run.at _ put _ _ (ap (λ (n : ℕ). c.loop-run.at + n) c.stored_bytes.ensures)
+          (c.in_ok-put_run.ensures.done (so_far.still t) _ _ (base_there base diff start d text _ there are c.run-item.result _ c.loop-run.at _ put)
+          (still_diff base diff start d text _ there are c.run-item.result _ c.loop-run.at _ put) are.differ);
     }
 
 pub returns-in_err-sync-clause-begun : goal.returns-in_err-sync-clause-begun
@@ -74,9 +60,13 @@ returns-in_err-sync-clause-begun g c =
     let part : Tells (known c.args.files.now).health → (d : DiffCopy) (text : List ℕ) → get (known c.args.files.now).saved base ≡ Some text
     → AreThere base c.args.diff.now c.args.start.now d (known c.args.files.now).saved
     → RunsPart base (stage_calls base (page_writes d.numbers d.bytes) text) (known c.args.files.now) (known c.sync.new.self) = λ t d text there are.
-    sync_fails base c.args.diff.now c.args.start.now d text _ there are c.loop-i.i _ _ (omega (arith, c.loop-i-test.false)) (c.loop-i.invariant.wrote t d text there are) (c.in_err-sync.ensures.same (c.loop-i.invariant.still t)) in
+    sync_fails base c.args.diff.now c.args.start.now d text _ there are c.loop-run.at _
+    (at_end base c.args.diff.now c.args.start.now d text _ there are c.loop-run.runs c.loop-run.run-index c.loop-run.at _ c.loop-run-test.false (c.loop-run.invariant.put t d text there are)) _
+    (c.in_err-sync.ensures.same (c.loop-run.invariant.still t)) in
     on_err _ _ part
 
 pub returns-clause-done : goal.returns-clause-done
 returns-clause-done g c = λ t d text there are.
-    wrote_all c.args.base.now c.args.diff.now c.args.start.now d text _ there are c.loop-i.i _ _ (omega (arith, c.loop-i-test.false)) (c.loop-i.invariant.wrote t d text there are) (c.in_ok-sync.ensures.synced (c.loop-i.invariant.still t))
+    put_all c.args.base.now c.args.diff.now c.args.start.now d text _ there are c.loop-run.at _
+    (at_end c.args.base.now c.args.diff.now c.args.start.now d text _ there are c.loop-run.runs c.loop-run.run-index c.loop-run.at _ c.loop-run-test.false (c.loop-run.invariant.put t d text there are)) _
+    (c.in_ok-sync.ensures.synced (c.loop-run.invariant.still t))

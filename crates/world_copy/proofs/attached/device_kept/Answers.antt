@@ -1,4 +1,4 @@
-<<<<<<< 717b8584
+<<<<<<< f4895c43
 -- The device that keeps the same is reset.
 use Rattle.std.proofs.Common.{subst}
 use Rattle.guest_devices.specs.declared.device.Device.{Device}

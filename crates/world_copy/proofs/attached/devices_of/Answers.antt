@@ -10,7 +10,7 @@ loop-device-init c =
 
 pub loop-device-preserved : goal.loop-device-preserved
 loop-device-preserved c =
-<<<<<<< 717b8584
+<<<<<<< f4895c43
     let same : c.in-Some.device ≡ c.into_device.result =
     let outer = c.device.view_is in
     let inner = c.into_device.ensures in cc in

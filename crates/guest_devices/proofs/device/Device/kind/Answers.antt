@@ -10,7 +10,7 @@ returns-in-Block c = ap (λ (d : Device). number_of (kept_of d).kind) (sym c.in-
 pub returns-in-Net : goal.returns-in-Net
 returns-in-Net c = ap (λ (d : Device). number_of (kept_of d).kind) (sym c.in-Net.is)
 
-<<<<<<< 717b8584
+<<<<<<< f4895c43
 pub returns-in-Vsock : goal.returns-in-Vsock
 returns-in-Vsock c = ap (λ (d : Device). number_of (kept_of d).kind) (sym c.in-Vsock.is)
 
