@@ -8,7 +8,7 @@ import time
 from hart import hex_of, used
 from machine import PROGRAM, TOP, calls, image_of, load, put, serve
 
-<<<<<<< f4895c43
+<<<<<<< 8bde38ab
 ROUNDS = int(os.environ.get("ROUNDS", "15000"))
 =======
 ROUNDS = int(os.environ.get("ROUNDS", "100000"))
@@ -25,7 +25,7 @@ def wanted(rounds):
 
 def steps(harts, rounds):
     """Lines for more events than the guest makes, of which the replay looks at none once the guest is off."""
-<<<<<<< f4895c43
+<<<<<<< 8bde38ab
     most = 4000 * rounds + 1000000
 =======
     most = 3000 * rounds + 1000000

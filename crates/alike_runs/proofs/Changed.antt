@@ -7,7 +7,7 @@ use Rattle.http_stream.specs.Stream.{Connection}
 use Rattle.gate_file.specs.Runs.{save_calls}
 use Rattle.vm_config.specs.declared.config.Config.{Config}
 use Rattle.snap_writer.specs.Create.{create_calls}
-<<<<<<< f4895c43
+<<<<<<< 8bde38ab
 use Rattle.file_format.specs.declared.version.Version.TheVariants.{Two}
 use Rattle.snap_diff.specs.Copies.{DiffCopy, diff_of, pages_at}
 use Rattle.snap_diff.specs.Diffs.{stored_pages}
@@ -144,7 +144,7 @@ module _ (more : List Twins) (t : Twins) (among : IsAmong t more) (copy : StateC
   saved_same None None base = bytes_same
   saved_same None (Some b) base = absurd base
   saved_same (Some a) None base = absurd base
-<<<<<<< f4895c43
+<<<<<<< 8bde38ab
   saved_same (Some a) (Some b) base = λ i. stored_pages Two (length (pages_same i)) (pages_at (pages_same i) (bytes_same i))
 =======
   saved_same (Some a) (Some b) base = λ i. pages_at (pages_same i) (bytes_same i)

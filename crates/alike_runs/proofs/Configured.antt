@@ -29,8 +29,13 @@ use Rattle.guest_devices.specs.declared.change.DeviceChange.{DeviceChange}
 use Rattle.guest_devices.specs.Kinds.{sectors_change}
 use Rattle.script_text.specs.declared.item.Item.{Item}
 use Rattle.script_text.specs.declared.item.Item.TheVariants as item
+<<<<<<< 8bde38ab
+use Rattle.responses.specs.Output.{console_line}
+use Rattle.responses.specs.Responses.{Response}
+=======
 use Rattle.script_output.specs.Output.{console_line}
 use Rattle.response_form.specs.Responses.{Response}
+>>>>>>> m
 use Rattle.guest_devices.specs.declared.device.Device.{Device}
 use Rattle.flat_guest.specs.Given.{Given}
 use Rattle.flat_guest.specs.Given.Given.{Host, Nothing}
@@ -135,7 +140,7 @@ leaves_kept (change.PatchInterface patch) m n is own =
     ∙ relimited_there receives_told patch.rx_rate_limiter number m.guest)
     (ap (λ (q : Machine). q.config.configured) is) own
 leaves_kept (change.MachineConfig machine) m n is own = λ there. ap (λ (q : Machine). q.config.configured) is
-<<<<<<< f4895c43
+<<<<<<< 8bde38ab
 leaves_kept (change.PutVsock vsock) m n is own = λ there. ap (λ (q : Machine). q.config.configured) is
 =======
 >>>>>>> m
@@ -157,7 +162,7 @@ leaves_kept (change.State Resumed) m n is own =
     kept m n (ap (λ (q : Machine). is_some q.guest) is) (ap (λ (q : Machine). q.config.configured) is) own
 leaves_kept (change.CreateSnapshot it) m n (devices, x) own = create_kept m.guest m it devices n refl x own
 leaves_kept (change.LoadSnapshot load) m n x own = load_kept (found m.saved load.files) m load n x own
-<<<<<<< f4895c43
+<<<<<<< 8bde38ab
 leaves_kept (change.MmdsConfig mmds) m n is own = λ there. ap (λ (q : Machine). q.config.configured) is
 =======
 >>>>>>> m
@@ -176,7 +181,7 @@ failed_kept (change.PatchDrive patch) m left n x own = same m n x.3 own
 failed_kept (change.PutInterface interface) m left n x own = absurd x
 failed_kept (change.PatchInterface patch) m left n x own = absurd x
 failed_kept (change.MachineConfig machine) m left n x own = absurd x
-<<<<<<< f4895c43
+<<<<<<< 8bde38ab
 failed_kept (change.PutVsock vsock) m left n x own = absurd x
 =======
 >>>>>>> m
@@ -187,7 +192,7 @@ failed_kept change.Start m left n x own = same m n x.1 own
 failed_kept (change.State state) m left n x own = absurd x
 failed_kept (change.CreateSnapshot it) m left n x own = fails_kept m.guest m it left n x own
 failed_kept (change.LoadSnapshot load) m left n x own = same m n x.1 own
-<<<<<<< f4895c43
+<<<<<<< 8bde38ab
 failed_kept (change.MmdsConfig mmds) m left n x own = absurd x
 =======
 >>>>>>> m

@@ -13,7 +13,7 @@ use Rattle.gate_file.proofs.Inserts.{got_other, got_there}
 use Rattle.vm_outside.proofs.Imaging.{got}
 use Rattle.file_format.specs.Identities.{identity}
 use Rattle.file_format.specs.Kinds.{byte, fixed, number32, number64}
-<<<<<<< f4895c43
+<<<<<<< 8bde38ab
 use Rattle.file_format.specs.declared.version.Version.TheVariants.{Two}
 use Rattle.snap_memory.specs.Headers.{header, new_header}
 use Rattle.snap_diff.specs.Copies.{DiffCopy}
@@ -89,7 +89,7 @@ memory_long pages i j = dropped (header.bytes (new_header pages i)) (header.byte
 pub diff_long : (p q i j : Identity) (d : DiffCopy) → length (diff_head (diff_as p i d)) ≡ length (diff_head (diff_as q j d))
 unfolding diff_head
 diff_long p q i j d =
-<<<<<<< f4895c43
+<<<<<<< 8bde38ab
     let table : List ℕ = table_bytes Two (runs_in Two d) in
     dropped (diffs.header.bytes (header_in Two (diff_as p i d)) ++ table) (diffs.header.bytes (header_in Two (diff_as q j d)) ++ table)
     (omega (
@@ -127,7 +127,7 @@ module _ (twins : List Twins) where
       ∙ sym (ap length second)
   files_long t a b (DiffFiles i j d twin first second) =
       ap length first
-<<<<<<< f4895c43
+<<<<<<< 8bde38ab
       ∙ ap suc (joined (diff_head (diff_as i t.first d)) (diff_head (diff_as j t.second d)) (stored_pages Two (length d.numbers) d.bytes) (diff_long i j t.first t.second d))
 =======
       ∙ ap suc (joined (diff_head (diff_as i t.first d)) (diff_head (diff_as j t.second d)) d.bytes (diff_long i j t.first t.second d))

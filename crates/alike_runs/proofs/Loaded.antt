@@ -45,7 +45,7 @@ module _ (m k : Machine) (had : Guest) (it : SnapshotCreate) (load : SnapshotLoa
         boot_source = source_kept m.config.boot_source own.source i;
         drives = m.config.drives;
         interfaces = m.config.interfaces;
-<<<<<<< f4895c43
+<<<<<<< 8bde38ab
         vsock = m.config.vsock;
         machine = record m.config.machine { track_dirty_pages = load.track_dirty_pages };
         balloon = m.config.balloon;

@@ -12,7 +12,7 @@ use Rattle.api_calls.specs.declared.endpoint.Body.TheVariants as body
 use Rattle.api_calls.specs.declared.endpoint.Endpoint.{Endpoint}
 use Rattle.api_calls.specs.declared.endpoint.Endpoint.TheVariants as endpoint
 use Rattle.api_calls.specs.Addresses.{is_small_mac}
-<<<<<<< f4895c43
+<<<<<<< 8bde38ab
 use Rattle.api_calls.specs.Form.{are_ids, holds, is_address, is_path, is_id, refusal}
 =======
 use Rattle.api_calls.specs.Form.{holds, is_path, is_id, refusal}
@@ -23,7 +23,7 @@ use Rattle.api_calls.specs.Call.{◌>>=◌, json_of, object_in, object_of, unles
 use Rattle.api_calls.specs.Routes.{Target, target_of}
 use Rattle.api_calls.proofs.Drives.{drive_is, patch_is}
 use Rattle.api_calls.proofs.Interfaces.{interface_is, interface_patch_is}
-<<<<<<< f4895c43
+<<<<<<< 8bde38ab
 use Rattle.api_calls.proofs.Metadata.{mmds_is}
 use Rattle.api_calls.proofs.Ranges.{IsWithin, balloon_is, machine_is, machine_patch_is, source_is, statistics_is, vsock_is}
 =======
@@ -46,7 +46,7 @@ IsAsked (call.PutInterface interface) =
 IsAsked (call.PatchInterface patch) =
     (is_id patch.iface_id ≡ true)
     × ((holds is_limiter patch.rx_rate_limiter ≡ true) × (holds is_limiter patch.tx_rate_limiter ≡ true))
-<<<<<<< f4895c43
+<<<<<<< 8bde38ab
 IsAsked (call.PutVsock vsock) = IsWithin 3 4294967294 vsock.guest_cid × (is_path vsock.uds_path ≡ true)
 =======
 >>>>>>> m
@@ -56,7 +56,7 @@ IsAsked (call.PatchMachineConfig patch) =
 IsAsked (call.PutBalloon balloon) = balloon.stats_polling_interval_s < 2 ^ 16
 IsAsked (call.PatchBalloon patch) = ⊤
 IsAsked (call.PatchStatistics patch) = patch.stats_polling_interval_s < 2 ^ 16
-<<<<<<< f4895c43
+<<<<<<< 8bde38ab
 IsAsked (call.PutMmdsConfig mmds) = (are_ids mmds.network_interfaces ≡ true) × (is_address mmds.ipv4_address ≡ true)
 =======
 >>>>>>> m
@@ -76,7 +76,7 @@ made_is body.Drive named ms none = drive_is named ms none
 made_is body.DrivePatch named ms none = patch_is named ms none
 made_is body.Interface named ms none = interface_is named ms none
 made_is body.InterfacePatch named ms none = interface_patch_is named ms none
-<<<<<<< f4895c43
+<<<<<<< 8bde38ab
 made_is body.Vsock named ms none = vsock_is ms none
 =======
 >>>>>>> m
@@ -85,7 +85,7 @@ made_is body.MachinePatch named ms none = machine_patch_is ms none
 made_is body.Balloon named ms none = balloon_is ms none
 made_is body.BalloonPatch named ms none = tt
 made_is body.StatisticsPatch named ms none = statistics_is ms none
-<<<<<<< f4895c43
+<<<<<<< 8bde38ab
 made_is body.MmdsConfig named ms none = mmds_is ms none
 =======
 >>>>>>> m

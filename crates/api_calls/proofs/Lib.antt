@@ -4,7 +4,7 @@ pub mod Ranges
 pub mod Limits
 pub mod Drives
 pub mod Interfaces
-<<<<<<< f4895c43
+<<<<<<< 8bde38ab
 pub mod Metadata
 =======
 >>>>>>> m

@@ -1,6 +1,6 @@
-<<<<<<< f4895c43
+<<<<<<< 8bde38ab
 -- Addresses as texts: that of a network device (VIRTIO 1.2, 5.1.4), and that of metadata in a guest's network.
-use Rattle.std.specs.Prelude.{ℕ, ◌+◌, ◌-◌, ◌*◌, ◌^◌, ◌==◌, nat_le, ◌&&◌, Bool, true, false, if◌then◌else◌, List, [], ◌∷◌, length, map, get_or, take, drop, codes, Option, Some, None, is_some}
+use Rattle.std.specs.Prelude.{ℕ, ◌+◌, ◌-◌, ◌*◌, ◌^◌, ◌==◌, nat_le, ◌&&◌, Bool, false, if◌then◌else◌, List, [], ◌∷◌, length, map, get_or, take, drop, codes, Option, Some, None, is_some}
 use Rattle.std.specs.Char.{is_ascii_hexdigit, to_ascii_lowercase}
 use Rattle.std.specs.List.{position}
 use Rattle.std.specs.Str.{bytes_eq}
@@ -53,7 +53,7 @@ abbrev pub mac_number : List ℕ → ℕ
 mac_number t =
     pair_at t 0 + 2 ^ 8 * pair_at t 3 + 2 ^ 16 * pair_at t 6 + 2 ^ 24 * pair_at t 9 + 2 ^ 32 * pair_at t 12
     + 2 ^ 40 * pair_at t 15
-<<<<<<< f4895c43
+<<<<<<< 8bde38ab
 
 -- ---- of metadata (RFC 3927, 2.1)
 

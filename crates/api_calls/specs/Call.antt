@@ -7,7 +7,7 @@ use Rattle.serde_json.specs.Read.{read}
 use Rattle.refusals.specs.declared.refusal.Refusal.{Refusal}
 use Rattle.refusals.specs.declared.refusal.Refusal.TheVariants as refused
 use Rattle.http_stream.specs.declared.request.Request.{Request}
-<<<<<<< f4895c43
+<<<<<<< 8bde38ab
 use Rattle.metadata_store.specs.declared.version.MetadataVersion.{MetadataVersion}
 use Rattle.metadata_store.specs.declared.version.MetadataVersion.TheVariants as versions
 use Rattle.api_calls.specs.Addresses.{lowered}
@@ -76,7 +76,7 @@ state_of d = if is_text (codes "Paused") (text_at (codes "state") d) then state.
 abbrev pub type_of : Data → SnapshotType
 type_of d = if is_text (codes "Diff") (text_at (codes "snapshot_type") d) then snapshot.Diff else snapshot.Full
 
-<<<<<<< f4895c43
+<<<<<<< 8bde38ab
 -- the first version, where nothing is said
 abbrev pub version_of : Data → MetadataVersion
 version_of d = if is_text (codes "V2") (text_at (codes "version") d) then versions.V2 else versions.V1
@@ -158,7 +158,7 @@ made body.InterfacePatch d = call.PatchInterface (record {
   iface_id = text_or_none (text_at (codes "iface_id") d);
   rx_rate_limiter = limiter_at (codes "rx_rate_limiter") d;
   tx_rate_limiter = limiter_at (codes "tx_rate_limiter") d;
-<<<<<<< f4895c43
+<<<<<<< 8bde38ab
 })
 made body.Vsock d = call.PutVsock (record {
   guest_cid = number_or_zero (number_at (codes "guest_cid") d);
@@ -187,7 +187,7 @@ made body.BalloonPatch d = call.PatchBalloon (record {
 made body.StatisticsPatch d = call.PatchStatistics (record {
   stats_polling_interval_s = number_or_zero (number_at (codes "stats_polling_interval_s") d);
 })
-<<<<<<< f4895c43
+<<<<<<< 8bde38ab
 made body.MmdsConfig d = call.PutMmdsConfig (record {
   network_interfaces = unwrap_or (texts_at (codes "network_interfaces") d) [];
   version = version_of d;

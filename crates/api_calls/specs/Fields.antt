@@ -1,7 +1,7 @@
 -- The fields of each body, in the order of the API's table. What isn't built is not in it: a field is unknown
 -- then, and a value out of range.
 use Rattle.std.specs.Prelude.{ℕ, ◌-◌, ◌^◌, true, false, List, [], ◌∷◌, ◌++◌, codes}
-<<<<<<< f4895c43
+<<<<<<< 8bde38ab
 use Rattle.api_calls.specs.Form.{Kind, path, id, ids, mac, address, text, choice, whole, flag, unset, group, Row, Level, Together, free, some_of, either, differing, naming, Form}
 =======
 use Rattle.api_calls.specs.Form.{Kind, path, id, mac, text, choice, whole, flag, unset, group, Row, Level, Together, free, some_of, either, differing, naming, Form}
@@ -108,7 +108,7 @@ interface_patch named = record {
       ++ limiter_levels (codes "tx_rate_limiter");
   together = naming (codes "iface_id") named;
 }
-<<<<<<< f4895c43
+<<<<<<< 8bde38ab
 
 -- PUT /vsock: an id may be given, which is ignored, and is a text as long as a body may be
 abbrev pub vsock : Form
@@ -167,7 +167,7 @@ balloon_patch = flat (needed (codes "amount_mib") any_number ∷ []) free
 abbrev pub statistics_patch : Form
 statistics_patch = flat (needed (codes "stats_polling_interval_s") seconds ∷ []) free
 
-<<<<<<< f4895c43
+<<<<<<< 8bde38ab
 -- PUT /mmds/config
 abbrev pub mmds_config : Form
 mmds_config = flat (
@@ -231,7 +231,7 @@ form_of body.Drive named = drive named
 form_of body.DrivePatch named = drive_patch named
 form_of body.Interface named = interface named
 form_of body.InterfacePatch named = interface_patch named
-<<<<<<< f4895c43
+<<<<<<< 8bde38ab
 form_of body.Vsock named = vsock
 =======
 >>>>>>> m
@@ -240,7 +240,7 @@ form_of body.MachinePatch named = machine_patch
 form_of body.Balloon named = balloon
 form_of body.BalloonPatch named = balloon_patch
 form_of body.StatisticsPatch named = statistics_patch
-<<<<<<< f4895c43
+<<<<<<< 8bde38ab
 form_of body.MmdsConfig named = mmds_config
 =======
 >>>>>>> m

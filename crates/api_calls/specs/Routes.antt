@@ -33,7 +33,7 @@ routes =
     ∷ route_in (codes "PATCH") (codes "/drives/") (endpoint.Send body.DrivePatch)
     ∷ route_in (codes "PUT") (codes "/network-interfaces/") (endpoint.Send body.Interface)
     ∷ route_in (codes "PATCH") (codes "/network-interfaces/") (endpoint.Send body.InterfacePatch)
-<<<<<<< f4895c43
+<<<<<<< 8bde38ab
     ∷ route (codes "PUT") (codes "/vsock") (endpoint.Send body.Vsock)
 =======
 >>>>>>> m
@@ -42,7 +42,7 @@ routes =
     ∷ route (codes "PUT") (codes "/balloon") (endpoint.Send body.Balloon)
     ∷ route (codes "PATCH") (codes "/balloon") (endpoint.Send body.BalloonPatch)
     ∷ route (codes "PATCH") (codes "/balloon/statistics") (endpoint.Send body.StatisticsPatch)
-<<<<<<< f4895c43
+<<<<<<< 8bde38ab
     ∷ route (codes "PUT") (codes "/mmds/config") (endpoint.Send body.MmdsConfig)
 =======
 >>>>>>> m

@@ -4,7 +4,7 @@ ghost use Rattle.std.specs.Prelude.{◌≡◌};
 use crate::balloon::{Balloon, BalloonPatch, StatisticsPatch};
 use crate::interface::{Interface, InterfacePatch};
 use crate::limiter::Limiter;
-<<<<<<< f4895c43
+<<<<<<< 8bde38ab
 use crate::mmds::MmdsConfig;
 use crate::vsock::Vsock;
 =======
@@ -164,7 +164,7 @@ pub enum ApiCall {
     PutInterface(Interface),
     /// PATCH /network-interfaces/{id}
     PatchInterface(InterfacePatch),
-<<<<<<< f4895c43
+<<<<<<< 8bde38ab
     /// PUT /vsock
     PutVsock(Vsock),
 =======
@@ -179,7 +179,7 @@ pub enum ApiCall {
     PatchBalloon(BalloonPatch),
     /// PATCH /balloon/statistics
     PatchStatistics(StatisticsPatch),
-<<<<<<< f4895c43
+<<<<<<< 8bde38ab
     /// PUT /mmds/config
     PutMmdsConfig(MmdsConfig),
 =======

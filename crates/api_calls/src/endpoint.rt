@@ -9,7 +9,7 @@ pub enum Body {
     DrivePatch,
     Interface,
     InterfacePatch,
-<<<<<<< f4895c43
+<<<<<<< 8bde38ab
     Vsock,
 =======
 >>>>>>> m
@@ -18,7 +18,7 @@ pub enum Body {
     Balloon,
     BalloonPatch,
     StatisticsPatch,
-<<<<<<< f4895c43
+<<<<<<< 8bde38ab
     MmdsConfig,
 =======
 >>>>>>> m

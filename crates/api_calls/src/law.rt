@@ -14,7 +14,7 @@ ghost use Rattle.api_calls.specs.declared.call.SnapshotCreate.{SnapshotCreate};
 ghost use Rattle.api_calls.specs.declared.call.SnapshotLoad.{SnapshotLoad};
 ghost use Rattle.api_calls.specs.declared.interface.Interface.{Interface};
 ghost use Rattle.api_calls.specs.declared.interface.InterfacePatch.{InterfacePatch};
-<<<<<<< f4895c43
+<<<<<<< 8bde38ab
 ghost use Rattle.api_calls.specs.declared.mmds.MmdsConfig.{MmdsConfig};
 ghost use Rattle.api_calls.specs.declared.vsock.Vsock.{Vsock};
 ghost use Rattle.api_calls.specs.Addresses.{is_small_mac};
@@ -69,7 +69,7 @@ pub fn limits_are_bounded()
         (holds is_limiter patch.rx_rate_limiter ≡ true) × (holds is_limiter patch.tx_rate_limiter ≡ true) }
 {}
 
-<<<<<<< f4895c43
+<<<<<<< 8bde38ab
 /// The CID of a vsock device is from 3 to 2^32 - 2, and its socket has a name of 1 to 4,095 bytes without a NUL.
 pub fn sockets_are_named()
     ensures { (r : Request) (vsock : Vsock) → call_of r ≡ Ok (call.PutVsock vsock) →
@@ -86,7 +86,7 @@ pub fn reports_are_near()
         patch.stats_polling_interval_s < 2 ^ 16 }
 {}
 
-<<<<<<< f4895c43
+<<<<<<< 8bde38ab
 /// Metadata are given at interfaces by their ids, of which there are 1 to 16, and at an address from 169.254.1.0 to
 /// 169.254.254.255.
 pub fn metadata_have_a_place()

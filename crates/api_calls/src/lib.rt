@@ -2,7 +2,7 @@
 //!
 //! `specs/Routes.antt` has the paths and their methods, `specs/Fields.antt` the fields of each body, and
 //! `specs/Form.antt` what is asked of fields and which refusal comes first. `specs/Call.antt` puts them together:
-<<<<<<< f4895c43
+<<<<<<< 8bde38ab
 //! the call that a request is, or its first refusal. But for `CacheType::text`, tests of addresses and lists of ids there is no body here:
 //! `api_json` reads requests by these tables, and the flat machine cites them. `specs/Drives.antt`, `specs/Interfaces.antt` and
 //! `specs/Limits.antt` say of a drive, of an interface and of limits what others need too.
@@ -33,7 +33,7 @@ mod limiter;
 mod test;
 mod vsock;
 
-<<<<<<< f4895c43
+<<<<<<< 8bde38ab
 pub use addresses::{is_mac, is_metadata_address};
 =======
 >>>>>>> m
@@ -43,7 +43,7 @@ pub use call::{
     SnapshotCreate, SnapshotFiles, SnapshotLoad, SnapshotType, VmState,
 };
 pub use endpoint::{Body, Endpoint};
-<<<<<<< f4895c43
+<<<<<<< 8bde38ab
 pub use id_list::IdList;
 pub use interface::{Interface, InterfacePatch};
 pub use law::{

@@ -3,7 +3,7 @@ use Rattle.std.specs.Prelude.{map}
 use Rattle.api_calls.specs.Form as form
 use Rattle.api_calls.specs.Routes as routes
 use Rattle.api_json.specs.declared.form.Kind.{Kind}
-<<<<<<< f4895c43
+<<<<<<< 8bde38ab
 use Rattle.api_json.specs.declared.form.Kind.TheVariants.{Path, Id, Ids, Mac, Address, Text, Choice, Whole, Flag, Unset, Group}
 =======
 use Rattle.api_json.specs.declared.form.Kind.TheVariants.{Path, Id, Mac, Text, Choice, Whole, Flag, Unset, Group}
@@ -21,7 +21,7 @@ use Rattle.api_json.specs.declared.routes.Target.{Target}
 abbrev pub kind_of : Kind → form.Kind
 kind_of Path = form.path
 kind_of Id = form.id
-<<<<<<< f4895c43
+<<<<<<< 8bde38ab
 kind_of Ids = form.ids
 kind_of Mac = form.mac
 kind_of Address = form.address

@@ -5,7 +5,7 @@ ghost use Rattle.api_calls.specs.Addresses as addresses;
 use std::alloc::{AllocError, Global};
 use vm_types::TextList;
 
-<<<<<<< f4895c43
+<<<<<<< 8bde38ab
 =======
 const MAC_LEN: usize = 17;
 

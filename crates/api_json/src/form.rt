@@ -7,7 +7,7 @@ ghost use Rattle.serde_json.specs.View.{view};
 ghost use Rattle.api_calls.specs.Form as form;
 ghost use Rattle.api_json.specs.Tables.{row_of, kind_of};
 
-<<<<<<< f4895c43
+<<<<<<< 8bde38ab
 use crate::ids::{are_ids, are_texts, is_id_text};
 use api_calls::{Test, is_mac, is_metadata_address};
 =======
@@ -29,7 +29,7 @@ pub enum Kind {
     Path,
     /// The id of a thing: 1 to 64 letters and digits of ASCII, and `_`.
     Id,
-<<<<<<< f4895c43
+<<<<<<< 8bde38ab
     /// A list of 1 to 16 ids.
     Ids,
     /// The address of a network device: six pairs of hexadecimal digits with colons between.
@@ -123,7 +123,7 @@ fn is_short_text(most: usize, text: &str) -> bool
     ensures { result ≡ form.is_short_text most text.now }
 {
     is_within(most, text)
-<<<<<<< f4895c43
+<<<<<<< 8bde38ab
 }
 
 fn is_address(text: &str) -> bool
@@ -158,7 +158,7 @@ fn is_of_kind(kind: &Kind, value: &Value) -> bool
     ensures { result ≡ form.is_of_kind (kind_of kind.now) (view value.now) }
 {
     match kind {
-<<<<<<< f4895c43
+<<<<<<< 8bde38ab
         Kind::Path | Kind::Id | Kind::Mac | Kind::Address | Kind::Text(_) | Kind::Choice(_) =>
             value.is_string(),
         Kind::Ids => are_texts(value),

@@ -27,7 +27,7 @@ mod drives;
 // PUT and PATCH /network-interfaces/{id},
 mod interfaces;
 
-<<<<<<< f4895c43
+<<<<<<< 8bde38ab
 // PUT /vsock,
 mod vsock;
 
@@ -39,7 +39,7 @@ mod machine_config;
 // PUT and PATCH /balloon, PATCH /balloon/statistics,
 mod balloon;
 
-<<<<<<< f4895c43
+<<<<<<< 8bde38ab
 // PUT /mmds/config,
 mod mmds;
 

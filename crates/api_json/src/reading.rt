@@ -18,7 +18,7 @@ use crate::mmds::{self, MMDS_CONFIG};
 use crate::routes::target_of;
 use crate::snapshot::{self, SNAPSHOT_CREATE, SNAPSHOT_LOAD};
 use crate::vm::{VM_STATE, state_of};
-<<<<<<< f4895c43
+<<<<<<< 8bde38ab
 use crate::vsock::{self, VSOCK};
 =======
 >>>>>>> m
@@ -39,7 +39,7 @@ fn form_of(body: Body, id: &[u8]) -> Form<'_>
         Body::DrivePatch => drives::patch_form(id),
         Body::Interface => interfaces::put_form(id),
         Body::InterfacePatch => interfaces::patch_form(id),
-<<<<<<< f4895c43
+<<<<<<< 8bde38ab
         Body::Vsock => VSOCK,
 =======
 >>>>>>> m
@@ -48,7 +48,7 @@ fn form_of(body: Body, id: &[u8]) -> Form<'_>
         Body::Balloon => BALLOON,
         Body::BalloonPatch => BALLOON_PATCH,
         Body::StatisticsPatch => STATISTICS_PATCH,
-<<<<<<< f4895c43
+<<<<<<< 8bde38ab
         Body::MmdsConfig => MMDS_CONFIG,
 =======
 >>>>>>> m
@@ -69,7 +69,7 @@ fn make(alloc: Global, body: Body, object: Value) -> Result<ApiCall, AllocError>
         Body::DrivePatch => drives::patch(alloc, &object),
         Body::Interface => interfaces::put(alloc, &object),
         Body::InterfacePatch => interfaces::patch(alloc, &object),
-<<<<<<< f4895c43
+<<<<<<< 8bde38ab
         Body::Vsock => vsock::put(alloc, &object),
 =======
 >>>>>>> m
@@ -78,7 +78,7 @@ fn make(alloc: Global, body: Body, object: Value) -> Result<ApiCall, AllocError>
         Body::Balloon => Ok(balloon::put(&object)),
         Body::BalloonPatch => Ok(balloon::patch(&object)),
         Body::StatisticsPatch => Ok(balloon::patch_statistics(&object)),
-<<<<<<< f4895c43
+<<<<<<< 8bde38ab
         Body::MmdsConfig => mmds::put(alloc, &object),
 =======
 >>>>>>> m

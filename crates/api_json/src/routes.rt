@@ -34,7 +34,7 @@ pub struct Target<'p> {
     pub id: &'p [u8],
 }
 
-<<<<<<< f4895c43
+<<<<<<< 8bde38ab
 static ROUTES: [Route; 24] = [
 =======
 static ROUTES: [Route; 23] = [
@@ -65,7 +65,7 @@ static ROUTES: [Route; 23] = [
         endpoint: Endpoint::Send(Body::InterfacePatch),
     },
     Route {
-<<<<<<< f4895c43
+<<<<<<< 8bde38ab
         pattern: Pattern::Fixed("/vsock"),
         method: "PUT",
         endpoint: Endpoint::Send(Body::Vsock),
@@ -98,7 +98,7 @@ static ROUTES: [Route; 23] = [
         endpoint: Endpoint::Send(Body::StatisticsPatch),
     },
     Route {
-<<<<<<< f4895c43
+<<<<<<< 8bde38ab
         pattern: Pattern::Fixed("/mmds/config"),
         method: "PUT",
         endpoint: Endpoint::Send(Body::MmdsConfig),

@@ -24,7 +24,7 @@ accepted (change.PutDrive drive) told = no_content
 accepted (change.PatchDrive patch) told = no_content
 accepted (change.PutInterface interface) told = no_content
 accepted (change.PatchInterface patch) told = no_content
-<<<<<<< f4895c43
+<<<<<<< 8bde38ab
 accepted (change.PutVsock vsock) told = no_content
 =======
 >>>>>>> m
@@ -32,7 +32,7 @@ accepted (change.MachineConfig machine) told = no_content
 accepted (change.PutBalloon balloon) told = no_content
 accepted (change.PatchBalloon patch) told = no_content
 accepted (change.PatchStatistics patch) told = no_content
-<<<<<<< f4895c43
+<<<<<<< 8bde38ab
 accepted (change.MmdsConfig mmds) told = no_content
 =======
 >>>>>>> m

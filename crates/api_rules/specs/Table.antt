@@ -1,6 +1,6 @@
 -- Which calls are allowed: the API's table, row by row, without the checks of bodies, which come before.
 use Rattle.std.specs.Prelude.{ℕ, ◌^◌, ◌==◌, nat_le, nat_lt, Bool, true, false, not, ◌&&◌, ◌||◌, if◌then◌else◌, List, [], ◌∷◌, Option, Some, None, is_none, unwrap_or, Result, Ok, Err}
-<<<<<<< f4895c43
+<<<<<<< 8bde38ab
 use Rattle.std.specs.List.{list_all, list_any}
 =======
 use Rattle.std.specs.List.{list_any}
@@ -23,7 +23,7 @@ use Rattle.api_calls.specs.declared.call.Part.{Part}
 use Rattle.api_calls.specs.declared.call.Part.TheVariants as tells
 use Rattle.api_calls.specs.declared.interface.Interface.{Interface}
 use Rattle.api_calls.specs.declared.interface.InterfacePatch.{InterfacePatch}
-<<<<<<< f4895c43
+<<<<<<< 8bde38ab
 use Rattle.api_calls.specs.declared.mmds.MmdsConfig.{MmdsConfig}
 =======
 >>>>>>> m
@@ -59,7 +59,7 @@ when_allowed (call.PutDrive drive) = BeforeBoot
 when_allowed (call.PatchDrive patch) = AfterBoot
 when_allowed (call.PutInterface interface) = BeforeBoot
 when_allowed (call.PatchInterface patch) = AfterBoot
-<<<<<<< f4895c43
+<<<<<<< 8bde38ab
 when_allowed (call.PutVsock vsock) = BeforeBoot
 =======
 >>>>>>> m
@@ -68,7 +68,7 @@ when_allowed (call.PatchMachineConfig patch) = BeforeBoot
 when_allowed (call.PutBalloon balloon) = BeforeBoot
 when_allowed (call.PatchBalloon patch) = AfterBoot
 when_allowed (call.PatchStatistics patch) = AfterBoot
-<<<<<<< f4895c43
+<<<<<<< 8bde38ab
 when_allowed (call.PutMmdsConfig mmds) = BeforeBoot
 =======
 >>>>>>> m
@@ -134,7 +134,7 @@ interface_rows config interface =
 abbrev pub interface_patch_rows : Config → InterfacePatch → Rows
 interface_patch_rows config patch = (not (has_interface config.interfaces patch.iface_id), refusal.NoSuchId) ∷ []
 
-<<<<<<< f4895c43
+<<<<<<< 8bde38ab
 -- a machine has one at most
 abbrev pub vsock_rows : Config → Rows
 vsock_rows config = (is_none config.vsock && has_no_room config, refusal.TooManyDevices) ∷ []
@@ -195,7 +195,7 @@ told_rows config tells.Statistics =
     ∷ (not (is_on (interval_of config.balloon)), refusal.StatisticsOff)
     ∷ []
 
-<<<<<<< f4895c43
+<<<<<<< 8bde38ab
 -- metadata are given at interfaces that are there
 abbrev pub mmds_rows : Config → MmdsConfig → Rows
 mmds_rows config mmds = (not (list_all (has_interface config.interfaces) mmds.network_interfaces), refusal.NoSuchId) ∷ []
@@ -227,7 +227,7 @@ own_rows p config ids (call.PutDrive drive) = drive_rows config drive
 own_rows p config ids (call.PatchDrive patch) = drive_patch_rows config patch
 own_rows p config ids (call.PutInterface interface) = interface_rows config interface
 own_rows p config ids (call.PatchInterface patch) = interface_patch_rows config patch
-<<<<<<< f4895c43
+<<<<<<< 8bde38ab
 own_rows p config ids (call.PutVsock vsock) = vsock_rows config
 =======
 >>>>>>> m
@@ -236,7 +236,7 @@ own_rows p config ids (call.PatchMachineConfig patch) = memory_rows config (patc
 own_rows p config ids (call.PutBalloon balloon) = balloon_rows config balloon
 own_rows p config ids (call.PatchBalloon patch) = balloon_patch_rows config patch
 own_rows p config ids (call.PatchStatistics patch) = statistics_patch_rows config patch
-<<<<<<< f4895c43
+<<<<<<< 8bde38ab
 own_rows p config ids (call.PutMmdsConfig mmds) = mmds_rows config mmds
 =======
 >>>>>>> m
@@ -263,7 +263,7 @@ change_of config (call.PutDrive drive) = change.PutDrive drive
 change_of config (call.PatchDrive patch) = change.PatchDrive patch
 change_of config (call.PutInterface interface) = change.PutInterface interface
 change_of config (call.PatchInterface patch) = change.PatchInterface patch
-<<<<<<< f4895c43
+<<<<<<< 8bde38ab
 change_of config (call.PutVsock vsock) = change.PutVsock vsock
 =======
 >>>>>>> m
@@ -272,7 +272,7 @@ change_of config (call.PatchMachineConfig patch) = change.MachineConfig (patched
 change_of config (call.PutBalloon balloon) = change.PutBalloon balloon
 change_of config (call.PatchBalloon patch) = change.PatchBalloon patch
 change_of config (call.PatchStatistics patch) = change.PatchStatistics patch
-<<<<<<< f4895c43
+<<<<<<< 8bde38ab
 change_of config (call.PutMmdsConfig mmds) = change.MmdsConfig mmds
 =======
 >>>>>>> m

@@ -6,7 +6,7 @@ use crate::actions::start_refusal;
 use crate::ids::Ids;
 use crate::machine_config::{memory_refusal, patch_refusal, patched};
 use crate::snapshot::{create_refusal, load_refusal};
-<<<<<<< f4895c43
+<<<<<<< 8bde38ab
 use crate::{balloon, drives, interfaces, mmds, vsock};
 =======
 use crate::{balloon, drives, interfaces};
@@ -44,7 +44,7 @@ fn when_allowed(call: &ApiCall) -> When
         ApiCall::PutBootSource(_)
         | ApiCall::PutDrive(_)
         | ApiCall::PutInterface(_)
-<<<<<<< f4895c43
+<<<<<<< 8bde38ab
         | ApiCall::PutVsock(_)
         | ApiCall::PutMachineConfig(_)
         | ApiCall::PatchMachineConfig(_)
@@ -86,7 +86,7 @@ fn own_refusal(phase: Phase, config: &Config, ids: &Ids, call: &ApiCall) -> Opti
         ApiCall::PatchDrive(patch) => drives::patch_refusal(config, patch),
         ApiCall::PutInterface(interface) => interfaces::put_refusal(config, interface),
         ApiCall::PatchInterface(patch) => interfaces::patch_refusal(config, patch),
-<<<<<<< f4895c43
+<<<<<<< 8bde38ab
         ApiCall::PutVsock(_) => vsock::put_refusal(config),
 =======
 >>>>>>> m
@@ -95,7 +95,7 @@ fn own_refusal(phase: Phase, config: &Config, ids: &Ids, call: &ApiCall) -> Opti
         ApiCall::PutBalloon(balloon) => balloon::put_refusal(config, balloon),
         ApiCall::PatchBalloon(patch) => balloon::patch_refusal(config, patch),
         ApiCall::PatchStatistics(patch) => balloon::statistics_refusal(config, patch),
-<<<<<<< f4895c43
+<<<<<<< 8bde38ab
         ApiCall::PutMmdsConfig(mmds) => mmds::put_refusal(config, mmds),
 =======
 >>>>>>> m
@@ -116,7 +116,7 @@ fn change_of(config: &Config, call: ApiCall) -> Change
         ApiCall::PatchDrive(patch) => Change::PatchDrive(patch),
         ApiCall::PutInterface(interface) => Change::PutInterface(interface),
         ApiCall::PatchInterface(patch) => Change::PatchInterface(patch),
-<<<<<<< f4895c43
+<<<<<<< 8bde38ab
         ApiCall::PutVsock(vsock) => Change::PutVsock(vsock),
 =======
 >>>>>>> m
@@ -127,7 +127,7 @@ fn change_of(config: &Config, call: ApiCall) -> Change
         ApiCall::PutBalloon(balloon) => Change::PutBalloon(balloon),
         ApiCall::PatchBalloon(patch) => Change::PatchBalloon(patch),
         ApiCall::PatchStatistics(patch) => Change::PatchStatistics(patch),
-<<<<<<< f4895c43
+<<<<<<< 8bde38ab
         ApiCall::PutMmdsConfig(mmds) => Change::MmdsConfig(mmds),
 =======
 >>>>>>> m

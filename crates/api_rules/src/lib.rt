@@ -15,7 +15,7 @@ mod drives;
 // PUT and PATCH /network-interfaces/{id},
 mod interfaces;
 
-<<<<<<< f4895c43
+<<<<<<< 8bde38ab
 // PUT /vsock,
 mod vsock;
 
@@ -27,7 +27,7 @@ mod machine_config;
 // PUT, GET and PATCH /balloon, GET and PATCH /balloon/statistics,
 mod balloon;
 
-<<<<<<< f4895c43
+<<<<<<< 8bde38ab
 // PUT /mmds/config,
 mod mmds;
 

@@ -1,3 +1,15 @@
+<<<<<<< 8bde38ab
+-- What a balloon writes are bytes, and another interval leaves its data small.
+use Rattle.std.proofs.Common.{◌<◌, ◌^◌, ℕ, true, arith}
+use Rattle.std.proofs.lemmas.List.Elements.{All-replicate}
+use Rattle.le_fields.specs.Fields.{IsByte}
+use Rattle.queue_device.specs.Sizes.{IsSmallWrite}
+use Rattle.balloon_device.specs.declared.kind.BalloonChange.TheVariants.{Interval}
+use Rattle.balloon_device.specs.declared.kind.Stage.{Stage}
+use Rattle.balloon_device.specs.declared.kind.Stage.TheVariants as stage
+use Rattle.balloon_device.specs.Balloon.{Balloon, changed}
+use Rattle.balloon_device.specs.Work.{IsSizedData, op_of}
+=======
 -- What is kept of a balloon where each reply was small, and what it writes.
 use Rattle.std.proofs.Common.{◌≡◌, ◌≤◌, ◌<◌, ◌^◌, ℕ, true, false, refl, arith}
 use Rattle.std.proofs.lemmas.List.Elements.{All-replicate}
@@ -19,6 +31,7 @@ use Rattle.balloon_device.specs.Work.{BalloonNarrow, IsSizedData, is_sized_work,
 use Rattle.balloon_device.proofs.Balloon.{owes}
 use Rattle.balloon_device.proofs.Resuming.{resumes_sized}
 use Rattle.balloon_device.proofs.SmallEntries.{none_small}
+>>>>>>> m
 
 pub acts_small : (g : Stage) → IsSmallWrite (op_of g)
 acts_small stage.Rest = tt
@@ -30,6 +43,8 @@ acts_small (stage.Tags from s) = tt
 pub interval_small : (seconds : ℕ) (e : Balloon) → seconds < 2 ^ 16 → IsSizedData true e → IsSizedData true (changed (Interval seconds) e)
 interval_small seconds e small fine =
     λ is. let was = fine is in record { interval = small; last = was.last; statistics = was.statistics }
+<<<<<<< 8bde38ab
+=======
 
 module _ (port pages : ℕ) (few : pages ≤ 2 ^ 20) where
   pub narrow_new : (interval : ℕ) → interval < 2 ^ 16 → BalloonNarrow port pages (Ends (new_balloon port pages interval))
@@ -55,3 +70,4 @@ module _ (port pages : ℕ) (few : pages ≤ 2 ^ 20) where
   narrow_writes t kept =
       wants_small balloon (setting changed) (sized_hand true) (is_sized_work true) (IsSizedData true) true true no_call port pages few
       owes (resumes_sized true) (λ e. tt) (λ w g is. acts_small g.stage) t kept
+>>>>>>> m

@@ -9,6 +9,7 @@ use Rattle.vq_split.specs.declared.queue.Part.{Part}
 use Rattle.vq_split.specs.Chain.{is_inside, read_bytes}
 use Rattle.dev_core.specs.declared.collect.Collect.{Collect}
 use Rattle.dev_core.specs.Pieces.{past, place, room}
+use Rattle.dev_core.proofs.Fuel.{none_of}
 use Rattle.queue_device.specs.Acting.{performing}
 use Rattle.queue_device.specs.Left.{begin_of}
 use Rattle.balloon_device.specs.declared.statistics.Statistics.{Statistics}
@@ -17,7 +18,7 @@ use Rattle.balloon_device.specs.Pages.{all_zeroed, inflated, numbers_zeroed, pag
 use Rattle.balloon_device.specs.Pieces.{read_all}
 use Rattle.balloon_device.specs.Statistics.{Telling, all_told, no_statistics, told}
 use Rattle.balloon_device.specs.Work.{first_of, list_left, tags_left, zeros_left}
-use Rattle.balloon_device.proofs.Pieces.{none_of, read_done, read_more}
+use Rattle.balloon_device.proofs.Pieces.{read_done, read_more}
 
 assoc : {A B C : Type 0} (t : Doing A) (f : A → Doing B) (g : B → Doing C)
     → and_then (and_then t f) g ≡ and_then t (λ a. and_then (f a) g)

@@ -12,7 +12,10 @@ ghost use Rattle.queue_device.specs.Kept.{is_state};
 ghost use Rattle.queue_device.specs.Lanes.{new_lane};
 ghost use Rattle.queue_device.specs.Left.{left_at, queued};
 ghost use Rattle.queue_device.specs.Service.{Queued};
+<<<<<<< 8bde38ab
+=======
 ghost use Rattle.queue_device.specs.Sizes.{IsReplyTo, IsSmallWrite};
+>>>>>>> m
 ghost use Rattle.queue_device.specs.Timing.{is_timed_left};
 ghost use Rattle.balloon_device.specs.declared.kind.BalloonChange.{BalloonChange};
 ghost use Rattle.balloon_device.specs.declared.kind.BalloonChange.TheVariants.{Interval};

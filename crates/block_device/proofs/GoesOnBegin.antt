@@ -1,9 +1,17 @@
 -- What the service of a request begins with.
+<<<<<<< 8bde38ab
+use Rattle.std.proofs.Common.{◌≡◌, ℕ, ◌+◌, ◌-◌, ◌/◌, ◌%◌, ◌^◌, ◌==◌, ◌<◌, ◌≤◌, ◌&&◌, not, nat_le, refl, Bool, true, [], length, arith}
+use Rattle.std.proofs.lemmas.List.Elements.{All-nil}
+use Rattle.std.proofs.lemmas.Bool.{and_parts}
+use Rattle.le_fields.specs.Fields.{IsByte, field_at}
+use Rattle.vq_split.specs.Inside.{AreInside}
+=======
 use Rattle.std.proofs.Common.{◌≡◌, ℕ, ◌+◌, ◌*◌, ◌-◌, ◌/◌, ◌%◌, ◌^◌, ◌==◌, ◌<◌, ◌≤◌, ◌&&◌, not, nat_le, refl, Bool, true, false, if◌then◌else◌, List, [], ◌∷◌, length, arith}
 use Rattle.std.proofs.lemmas.List.Elements.{All-nil}
 use Rattle.le_fields.specs.Fields.{IsByte, field_at}
 use Rattle.vq_split.specs.Inside.{AreInside}
 use Rattle.vq_split.proofs.Inside.{both}
+>>>>>>> m
 use Rattle.dev_core.specs.Collecting.{nothing}
 use Rattle.block_device.specs.declared.stage.ServiceStage.TheVariants as stage
 use Rattle.block_device.specs.Service.{Request, behind_header, io_error, is_range, kind_flush, kind_get_id, kind_in, kind_out, served_as, served_id, served_in, served_out, service, unsupported}
@@ -16,7 +24,7 @@ use Rattle.block_device.proofs.GoesOnServe.{Serves, behind, ends, gathers_on, pu
 range_of : (len sector sectors : ℕ) → is_range len sector sectors ≡ true
     → (len % 512 ≡ 0) × (sector + len / 512 ≤ sectors)
 range_of len sector sectors is =
-    let h = both (len % 512 == 0) (nat_le (sector + len / 512) sectors) is in
+    let h = and_parts (len % 512 == 0) (nat_le (sector + len / 512) sectors) is in
     (grind (arith, h.0), grind (arith, h.1))
 
 module _ (sized : Bool) (pages : ℕ) (r : Request) where
@@ -39,7 +47,7 @@ module _ (sized : Bool) (pages : ℕ) (r : Request) where
   out_on sector size most inside bytes =
       serves_if sized pages r.at (not r.read_only && is_range r.data_out sector r.sectors) _ _
       (λ is.
-      let range = range_of r.data_out sector r.sectors (both (not r.read_only) _ is).1 in
+      let range = range_of r.data_out sector r.sectors (and_parts (not r.read_only) _ is).1 in
       let units : 0 + r.data_out / 64 ≤ 2 ^ 50 = omega (arith, most) in
       let end : sector + (0 + r.data_out / 64 - 1) / 8 < 2 ^ 64 = omega (arith, range, size) in
       gathers_on sized pages r.at (r.data_out / 64) 0 sector (behind_header r.got)

@@ -10,4 +10,4 @@ mod window;
 
 pub use hart_state::HartState;
 pub use law::{board_kept, board_long};
-pub use window::{WINDOW_SIZE, WINDOW_START, is_window};
+pub use window::{RING_SIZE, WINDOW_SIZE, WINDOW_START, is_window};

@@ -1,4 +1,4 @@
-// Where the board's registers are.
+// Where the board's registers are, and how much its ring holds.
 ghost use Rattle.std.specs.Prelude.{◌≡◌};
 ghost use Rattle.board_table.specs.Window as window;
 
@@ -9,6 +9,9 @@ pub const WINDOW_START: GuestAddr = 0x200_0000;
 
 /// How many bytes they are.
 pub const WINDOW_SIZE: usize = 4096;
+
+/// How many bytes the console's ring holds.
+pub const RING_SIZE: usize = 4096;
 
 /// Whether all of these bytes are the board's.
 pub fn is_window(at: GuestAddr, len: usize) -> bool

@@ -24,7 +24,7 @@ use Rattle.snapshot_merge.specs.Rebasing.{MergesPart, Rebases, Refuses}
 use Rattle.snapshot_merge.specs.Stops.{IsMerge}
 use Rattle.snapshot_merge.proofs.Meanwhile.{front_moment, none_made, refused_each}
 use Rattle.snapshot_merge.proofs.Standing.{at_bytes, from_at}
-use Rattle.snapshot_merge.proofs.Stopping.{calls_are, in_calls, same_some}
+use Rattle.snapshot_merge.proofs.Stopping.{calls_are, in_calls, not_both, same_some}
 use Rattle.create_lists.specs.Listed.{AgreeAll, Agrees, AgreesText, AreCreates, Create, HoldBytes, HoldsBytes, diff_since, memory_of}
 use Rattle.create_lists.proofs.Planning.{AtText, at_text, c, e, is_diff, left_agrees, parent, text_joins}
 
@@ -32,9 +32,6 @@ use Rattle.create_lists.proofs.Planning.{AtText, at_text, c, e, is_diff, left_ag
 no_diff : (r : Result MemHeader Refusal) (plan : Plan) → plan_by r (Err refusal.NoSuchFile) ≡ Ok plan → ⊥
 no_diff (Ok h) plan is = cc
 no_diff (Err why) plan is = cc
-
-not_both : (p : Plan) → ◌≡◌ {A = Result Plan Refusal} (Ok p) (Err refusal.ParentDiffers) → ⊥
-not_both p wrong = cc
 
 module _ (creates : List Create) (are : AreCreates creates) (base diff : List ℕ) (before : List FileCall) (holds : HoldBytes before) (each : AgreeAll creates before) where
   module _ (file : List ℕ) (calls : List FileCall) (merge : IsMerge base diff file before calls) (disk : Disk) (moment : Moment before calls disk) where

@@ -2,7 +2,7 @@
 use Rattle.std.proofs.Common.{◌≡◌, ◌<◌, ◌≤◌, ℕ, suc, ◌+◌, ◌*◌, ◌==◌, ◌&&◌, not, Bool, true, false, cond, MatchBool, List, [], ◌∷◌, length, get_or, Option, Some, None, Result, Ok, Err, ⊎_elim, refl, sym, ◌∙◌, ap, subst, arith}
 use Rattle.std.specs.Prelude.{nat_lt, slice_get}
 use Rattle.std.specs.List.{list_any}
-use Rattle.std.proofs.lemmas.Bool.{and_parts, cases_Bool, cases_lt, eqb-false, eqb-true, ltb-true, ne_eqb}
+use Rattle.std.proofs.lemmas.Bool.{and_parts, cases_Bool, cases_lt, eqb-false, eqb-true, ltb-true, ne_eqb, not-false}
 use Rattle.vm_types.specs.declared.identity.Identity.{Identity}
 use Rattle.refusals.specs.declared.refusal.Refusal.{Refusal}
 use Rattle.refusals.specs.declared.refusal.Refusal.TheVariants as refusal
@@ -28,7 +28,7 @@ use Rattle.snapshot_merge.proofs.NextSlot.{IsFree}
 use Rattle.snapshot_merge.proofs.Overlaid.{slots_fit}
 use Rattle.snapshot_merge.proofs.Standing.{At, base_at, header_tests}
 use Rattle.snapshot_merge.proofs.Standing.At.{at_start, at_pages, at_slot, at_end}
-use Rattle.flat_snapshot.proofs.Finds.{holds, not_false, passes}
+use Rattle.flat_snapshot.proofs.Finds.{holds, passes}
 use Rattle.create_lists.specs.Listed.{AgreesText, AreCreates, Create, IsAmong, IsMergeInto, IsPartOf, IsWholeOf, diff_since, memory_of}
 use Rattle.create_lists.proofs.Listing.{free_whole, held_agrees, part_merge}
 use Rattle.flat_snapshot.proofs.Loaded.{same_when}
@@ -210,7 +210,7 @@ module _ (creates : List Create) (are : AreCreates creates) (text file : List �
       let one = passes (not (is_same plan.diff.parent (memory.identity_of p.h))) refusal.ParentDiffers _ plan.merge (merges true settled) in
       let two = passes (open_slots p.h.slots == 100) refusal.NoSlotLeft _ plan.merge one.1 in
       let x = base_agrees.memory (copy_in p.h text) (record { head = p.h; holds = held; settled = zero }) in
-      let is_c : x.0 ≡ c = same_c x.0 x.1.0 (ap (λ (m : MemoryCopy). m.identity) (sym x.1.1)) (not_false _ one.0) in
+      let is_c : x.0 ≡ c = same_c x.0 x.1.0 (ap (λ (m : MemoryCopy). m.identity) (sym x.1.1)) (not-false _ one.0) in
       from_base creates are c e parent c_is.1.0 e_is.1.1.0 e_is.1.1.1 c_is.1.1 c_is.1.2 file of_file is_diff text of_text p.h held
       (x.1.1 ∙ ap memory_of is_c) zero (strict (open_slots p.h.slots) (length p.h.slots) (slots_fit p.h held.fits).0 (most p.h.slots) (eqb-false (open_slots p.h.slots) 100 two.0))
 

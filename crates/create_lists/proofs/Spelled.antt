@@ -2,7 +2,7 @@
 use Rattle.std.proofs.Common.{◌≡◌, ℕ, ◌+◌, ◌*◌, ◌==◌, true, false, not, if◌then◌else◌, List, [], ◌∷◌, ◌++◌, length, take, drop, Option, Some, None, Result, Ok, Err, refl, sym, ◌∙◌, ap, subst, arith, length-append, length-drop, append-nil}
 use Rattle.std.specs.Prelude.{nat_lt}
 use Rattle.std.specs.Str.{bytes_eq}
-use Rattle.std.proofs.lemmas.Bool.{and_parts, eqb-true, or_parts}
+use Rattle.std.proofs.lemmas.Bool.{and_parts, eqb-true, not-false, or_parts}
 use Rattle.std.proofs.lemmas.List.{length-take-le, nil_from_length, take-append-drop}
 use Rattle.std.proofs.lemmas.Slice.Eq.{bytes_eq-Decides}
 use Rattle.vm_types.specs.declared.identity.Identity.{Identity}
@@ -22,7 +22,11 @@ use Rattle.snap_state.proofs.Copies.{accepted}
 use Rattle.snapshot_merge.specs.Bases.{base_found, base_read, base_sized}
 use Rattle.snapshot_merge.specs.Memories.{Holds, IsMemoryFile}
 use Rattle.flat_snapshot.specs.Found.{memory_found, memory_front, memory_judged, memory_read, state_found, state_read}
+<<<<<<< 8bde38ab
+use Rattle.flat_snapshot.proofs.Finds.{holds, passes, both}
+=======
 use Rattle.flat_snapshot.proofs.Finds.{holds, not_false, passes, both}
+>>>>>>> m
 use Rattle.flat_snapshot.proofs.Loaded.{same_when}
 
 -- the copy of a memory file with this header
@@ -72,11 +76,11 @@ module _ (text : List ℕ) (are : IsBytes text) where
       let two = passes _ _ _ tt one.1 in
       let three = passes _ _ _ tt two.1 in
       let four = passes _ _ _ tt three.1 in
-      let settled : g.merging ≡ 0 = eqb-true g.merging 0 (not_false (g.merging == 0) two.0) in
-      let sizes = and_parts (g.pages == pages) (length text == 4096 + 4096 * pages) (not_false _ three.0) in
+      let settled : g.merging ≡ 0 = eqb-true g.merging 0 (not-false (g.merging == 0) two.0) in
+      let sizes = and_parts (g.pages == pages) (length text == 4096 + 4096 * pages) (not-false _ three.0) in
       let count : g.pages ≡ pages = eqb-true g.pages pages sizes.0 in
       let size : length text ≡ 4096 + 4096 * pages = eqb-true (length text) (4096 + 4096 * pages) sizes.1 in
-      let name : memory.identity_of g ≡ i = same_when (memory.identity_of g) i (not_false _ four.0) in
+      let name : memory.identity_of g ≡ i = same_when (memory.identity_of g) i (not-false _ four.0) in
       let copy : copy_in g text ≡ record { identity = i; pages = pages; bytes = drop 4096 text } = (λ k. record { identity = name k; pages = count k; bytes = drop 4096 text }) in
       record {
         head = g;
@@ -102,9 +106,9 @@ start_is : (given : List ℕ) → is_closed 32 given ≡ false → is_other (sta
     → given ≡ 1 ∷ state.magic (version_of given) ++ drop 12 given
 start_is [] opens known = absurd (let k : true ≡ false = opens in cc)
 start_is (b ∷ rest) opens known =
-    let gate : b ≡ 1 = eqb-true b 1 (not_false (b == 1) (or_parts (nat_lt (length (b ∷ rest)) 32) (not (b == 1)) opens).1) in
+    let gate : b ≡ 1 = eqb-true b 1 (not-false (b == 1) (or_parts (nat_lt (length (b ∷ rest)) 32) (not (b == 1)) opens).1) in
     let start : List ℕ = state.magic (version_of (b ∷ rest)) in
-    let magic : take 11 rest ≡ start = (bytes_eq-Decides (take 11 rest) start).0 (not_false (bytes_eq (take 11 rest) start) known) in
+    let magic : take 11 rest ≡ start = (bytes_eq-Decides (take 11 rest) start).0 (not-false (bytes_eq (take 11 rest) start) known) in
     (λ i. gate i ∷ sym (take-append-drop 11 rest) i) ∙ ap (λ (l : List ℕ). 1 ∷ l ++ drop 11 rest) magic
 
 module _ (text : List ℕ) (are : IsBytes text) (it : Identity × StateCopy) where

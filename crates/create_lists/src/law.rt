@@ -22,7 +22,7 @@ ghost use Rattle.create_lists.specs.Listed.{AgreeAll, Agrees, AreCreates, AreFil
 /// unfinished isn't loaded: behind a state file that is one, the load is refused with 26.
 ///
 /// `merges` takes what `snapshot_merge::rebase` ensures, and `creates` what `snap_writer::create` ensures of a stop, over
-/// any files. A load changes no file (`snap_finding::find`), so it has no other moment.
+/// any files. A load changes no file (`snap_restore::find`), so it has no other moment.
 pub fn any_files()
     ensures merges { (creates : List Create) (base diff : List ℕ) (result : Result (Unit {0}) RebaseError) (old new : FilesKnown)
         (disk : Disk) → AreCreates creates → HoldBytes old.calls → AgreeAll creates old.calls →

@@ -10,8 +10,7 @@ ghost use Rattle.decoded_words.specs.Decoded.{IsDecoded, Puts};
 
 use crate::decoding::Decoded;
 use crate::operation::Operation;
-use rv_alu::{alu, is_taken};
-use rv_effect::even;
+use rv_alu::{alu, even, is_taken};
 use rv_rows::numbers::{low_word, sign_extended_word};
 use rv_rows::{AluOp, Condition};
 use rv_supervisor::Regs;

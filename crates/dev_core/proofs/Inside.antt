@@ -15,6 +15,7 @@ use Rattle.vq_split.proofs.Inside.{in_ram, of_ram}
 use Rattle.dev_core.specs.Pieces.{Got, room, place, past, share, last_byte, collect, collect_all, put, put_all}
 use Rattle.dev_core.specs.Returns.{broke, broken, index_written, length_written, pair_place, returned}
 use Rattle.dev_core.specs.Inside.{Any}
+use Rattle.dev_core.proofs.Fuel.{some_of}
 
 -- a piece of the first part is inside
 pub piece_inside : (pages n : ℕ) (parts : List Part) → AreInside pages parts → 0 < n → n ≤ room parts
@@ -67,9 +68,6 @@ pub collect_all_keeps : (pages missing : ℕ) (bytes : List ℕ) (parts : List P
     (collect_all missing bytes parts)
 collect_all_keeps pages missing bytes parts few inside = collect_keeps pages missing missing bytes parts few inside
 
-some_share : (n : ℕ) → (n == 0) ≡ false → 0 < n
-some_share n off = grind arith
-
 put_keeps : (pages most : ℕ) (bytes : List ℕ) (parts : List Part) → pages < 2 ^ 32 → AreInside pages parts
     → Keeps (IsInside pages) (λ (left : List Part). AreInside pages left) (put most bytes parts)
 put_keeps pages zero bytes parts few inside = inside
@@ -80,7 +78,7 @@ put_keeps pages (suc most) bytes parts few inside =
     let long : length (take (share bytes parts) bytes) ≡ share bytes parts = length-take-le (share bytes parts) bytes
     (omega arith) in (
       subst (λ z. is_inside pages (place parts) z ≡ true) (sym long)
-          (piece_inside pages (share bytes parts) parts inside (some_share (share bytes parts) more) (omega arith)),
+          (piece_inside pages (share bytes parts) parts inside (some_of (share bytes parts) more) (omega arith)),
       λ reply fit. put_keeps pages most (drop (share bytes parts) bytes) (past (share bytes parts) parts) few
           (past_inside pages (share bytes parts) parts few inside (omega arith)),
     ))

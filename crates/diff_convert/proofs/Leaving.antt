@@ -91,7 +91,7 @@ leaves_on from to (Err OutOfMemory) old mid new same it = same_then old mid new 
 
 -- ---- the diff that is found, by the pages that were read
 
-start_of : (content : Option (List ℕ)) (start : DiffStart) (d : DiffCopy) → IsStartIn content start d → (given : List ℕ) × (content ≡ Some given) × IsStartOf given start d
+pub start_of : (content : Option (List ℕ)) (start : DiffStart) (d : DiffCopy) → IsStartIn content start d → (given : List ℕ) × (content ≡ Some given) × IsStartOf given start d
 start_of None start d is = absurd is
 start_of (Some given) start d is = (given, refl, is)
 

@@ -6,12 +6,9 @@ use std::io;
 use std::io::ErrorKind;
 use std::marker::Model;
 use std::os::unix::fs::FileExt;
+use vm_host::{PART, SECTOR};
 
-// Bytes of a sector, of a part of it, and of a block that is read at once.
-const SECTOR: usize = 512;
-
-const PART: usize = 64;
-
+// Bytes of a block that is read at once.
 const BLOCK: usize = 4096;
 
 /// The last part of a sector.

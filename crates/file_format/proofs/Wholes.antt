@@ -1,12 +1,13 @@
 -- Bytes that are one value and nothing else.
-use Rattle.std.proofs.Common.{◌≡◌, ℕ, ◌+◌, ◌<◌, List, [], ◌∷◌, ◌++◌, length, take, drop, Result, Ok, Err, refl, sym, ap, subst, ◌∙◌, append_assoc, arith, length-append}
+use Rattle.std.proofs.Common.{◌≡◌, ℕ, ◌+◌, ◌<◌, List, [], ◌∷◌, ◌++◌, length, take, drop, refl, sym, ap, subst, ◌∙◌, append_assoc, arith, length-append}
 use Rattle.std.specs.Int.{w32, to_le_bytes}
 use Rattle.std.proofs.lemmas.List.{take_at, drop_at}
-use Rattle.file_format.specs.declared.error.ReadError.{ReadError}
-use Rattle.file_format.specs.declared.error.ReadError.TheVariants.{Memory, Bad}
-use Rattle.file_format.specs.Format.{Format, IsBytes}
+use Rattle.file_format.specs.Format.{Format}
 use Rattle.file_format.specs.Kinds.{byte_list}
 use Rattle.file_format.specs.Ends.{Listing, listed}
+<<<<<<< 8bde38ab
+use Rattle.file_format.specs.Whole.{counted}
+=======
 use Rattle.file_format.specs.Whole.{IsEncoding, IsDecoded, TakesWhole, whole_only, whole_none, counted}
 
 pub put_first : {A : Type 0} (format : Format A) (v : A) (bytes : List ℕ) → format.Fits v → bytes ≡ format.puts v []
@@ -20,6 +21,7 @@ taken_whole format given (Err Bad) is e = whole_none format given e
 taken_whole format given (Err Memory) is e = tt
 
 pub ruleset wholes = (put_first, taken_whole)
+>>>>>>> m
 
 -- a count that is put in the place that was left for it
 record Put (bytes old mid : List ℕ) : Type 0 where

@@ -379,11 +379,12 @@ variant_again {A} {B} make part inner v rest is fits =
     ap (option_and_then (λ (x : A × List ℕ). Some (make x.0, x.1))) (inner.again (part v) rest fits)
     ∙ ap (λ (b : B). Some (b, rest)) (sym is)
 
-pub variant_only : {A B : Type 0} (make : A → B) (part : B → A) (inner : Format A) → ((a : A) → a ≡ part (make a))
-    → (given : List ℕ) (v : B) (rest : List ℕ) → IsBytes given
+-- of a value that has other fields in a file than in memory, where a form that fits is what its value has
+pub standing_only : {A B : Type 0} (make : A → B) (part : B → A) (inner : Format A)
+    → ((a : A) → inner.Fits a → a ≡ part (make a)) → (given : List ℕ) (v : B) (rest : List ℕ) → IsBytes given
     → made_at make inner.reads given ≡ Some (v, rest) → ((v ≡ make (part v)) × inner.Fits (part v))
     × (given ≡ inner.bytes (part v) ++ rest)
-variant_only {A} {B} make part inner law given v rest is e =
+standing_only {A} {B} make part inner law given v rest is e =
     option_and_then_some (λ (x : A × List ℕ). Some (make x.0, x.1)) (inner.reads given) (v, rest) e
     (λ x ex made.
     let a = inner.only given x.0 x.1 is ex in
@@ -391,7 +392,13 @@ variant_only {A} {B} make part inner law given v rest is e =
     subst (λ (p : B × List ℕ). ((p.0 ≡ make (part p.0)) × inner.Fits (part p.0))
     × (given ≡ inner.bytes (part p.0) ++ p.1)) same
     (subst (λ (k : A). ((make x.0 ≡ make k) × inner.Fits k)
-    × (given ≡ inner.bytes k ++ x.1)) (law x.0) ((refl, a.0), a.1)))
+    × (given ≡ inner.bytes k ++ x.1)) (law x.0 a.0) ((refl, a.0), a.1)))
+
+pub variant_only : {A B : Type 0} (make : A → B) (part : B → A) (inner : Format A) → ((a : A) → a ≡ part (make a))
+    → (given : List ℕ) (v : B) (rest : List ℕ) → IsBytes given
+    → made_at make inner.reads given ≡ Some (v, rest) → ((v ≡ make (part v)) × inner.Fits (part v))
+    × (given ≡ inner.bytes (part v) ++ rest)
+variant_only make part inner law given v rest is e = standing_only make part inner (λ a fits. law a) given v rest is e
 
 -- ---- no value
 

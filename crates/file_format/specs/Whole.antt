@@ -17,12 +17,6 @@ use Rattle.file_format.specs.Laws.{IsBytes-rest, IsBytes-take}
 abbrev pub IsEncoding : {A : Type 0} → Format A → List ℕ → A → Type 0
 IsEncoding format given v = format.Fits v × (given ≡ format.bytes v)
 
--- the one value that the bytes are, or that they are none; or memory ran out
-abbrev pub IsDecoded : {A : Type 0} → Format A → List ℕ → Result A ReadError → Type 0
-IsDecoded format given (Ok v) = IsEncoding format given v
-IsDecoded {A} format given (Err Bad) = (v : A) → ¬ (IsEncoding format given v)
-IsDecoded format given (Err Memory) = Unit {0}
-
 -- a value behind which nothing is left
 abbrev pub ended_at : {A : Type 0} → A → List ℕ → Option A
 ended_at v [] = Some v
@@ -59,12 +53,6 @@ whole_only {A} format given v is e =
       a.0,
       a.1 ∙ ap (λ (rest : List ℕ). format.bytes x.0 ++ rest) end.1 ∙ append-nil (format.bytes x.0),
     ))
-
-pub whole_none : {A : Type 0} (format : Format A) (given : List ℕ) → whole_at format.reads given ≡ None
-    → (v : A) → ¬ (IsEncoding format given v)
-whole_none {A} format given none v is =
-    let some : whole_at format.reads given ≡ Some v = ap (whole_at format.reads) is.1 ∙ whole_again format v is.0 in
-    absurd cc
 
 -- ---- a value as a list of its bytes
 

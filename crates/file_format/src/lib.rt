@@ -29,4 +29,4 @@ pub use lists::{read_into, read_items, write_count, write_items};
 pub use start::{is_closed, is_other};
 pub use stored::Stored;
 pub use version::{Version, version_of};
-pub use whole::{Counted, decode};
+pub use whole::Counted;

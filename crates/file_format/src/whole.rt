@@ -3,7 +3,7 @@ ghost use Rattle.std.specs.Prelude.{◌≡◌, ◌≤◌, ◌+◌, ◌++◌, OnO
 ghost use Rattle.file_format.specs.Kinds.{byte_list};
 ghost use Rattle.std.specs.Int.{w32, to_le_bytes};
 ghost use Rattle.file_format.specs.Reading.{Takes};
-ghost use Rattle.file_format.specs.Whole.{IsDecoded, TakesWhole, counted};
+ghost use Rattle.file_format.specs.Whole.{TakesWhole, counted};
 
 use crate::error::ReadError;
 use crate::input::Input;
@@ -22,13 +22,6 @@ fn whole_at<T: Stored>(alloc: Global, bytes: &[u8]) -> Result<T, ReadError>
     } else {
         Err(ReadError::Bad)
     }
-}
-
-/// The one value that these bytes are, if they are one.
-pub fn decode<T: Stored>(alloc: Global, bytes: &[u8]) -> Result<T, ReadError>
-    ensures { IsDecoded T.format bytes.now result }
-{
-    whole_at(alloc, bytes)
 }
 
 /// A value that is written as a list of its bytes.

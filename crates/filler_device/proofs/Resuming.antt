@@ -16,7 +16,7 @@ use Rattle.dev_core.specs.Collecting.{collect_left}
 use Rattle.dev_core.specs.Inside.{Any}
 use Rattle.dev_core.specs.Pieces.{Got, collect_all, put_all, readable, room, share, total, writable}
 use Rattle.dev_core.proofs.Asking.{collect_all_asks, put_all_asks}
-use Rattle.dev_core.proofs.Fuel.{collect_done, put_done}
+use Rattle.dev_core.proofs.Fuel.{collect_done, put_done, some_of}
 use Rattle.dev_core.proofs.Inside.{collect_all_keeps, filter_inside, put_all_keeps}
 use Rattle.queue_device.specs.declared.lanes.Which.{Which}
 use Rattle.queue_device.specs.declared.lanes.Which.TheVariants.{First, Second, Third}
@@ -30,7 +30,11 @@ use Rattle.queue_device.specs.Sizes.{IsLength}
 use Rattle.queue_device.specs.Spilling.{spill_left}
 use Rattle.queue_device.proofs.Acting.{keeps_when, led_keeps, performing_acts, performing_keeps}
 use Rattle.queue_device.proofs.Never.{never}
+<<<<<<< 8bde38ab
+use Rattle.queue_device.proofs.Pieces.{collect_asks, collect_next, filter_few, more_of, put_asks, put_next}
+=======
 use Rattle.queue_device.proofs.Pieces.{collect_asks, collect_next, filter_few, is_some_of, more_of, put_asks, put_next}
+>>>>>>> m
 use Rattle.filler_device.specs.declared.kind.Stage.{Stage}
 use Rattle.filler_device.specs.declared.kind.Stage.TheVariants as stage
 use Rattle.filler_device.specs.Filler.{Filler, filled, filler, limited, no_bytes, no_call, only_read, served_by, taken_by}
@@ -202,7 +206,7 @@ module _ (pages : ℕ) (k : Which) where
         left = ap (λ (t : Doing (List Part)). filling t len e) (put_done held to is);
       })
   fill_by false held to len e is inside few =
-      let some = is_some_of (share held to) is in
+      let some = some_of (share held to) is in
       inl (record {
         own = e;
         stage = stage.Fill (record { held = held; to = to }) len;

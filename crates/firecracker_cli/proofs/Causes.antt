@@ -5,7 +5,7 @@ use Rattle.vm_types.specs.declared.exit.Exit.{Exit}
 use Rattle.vm_types.specs.declared.exit.Object.{Object}
 use Rattle.vm_types.specs.declared.exit.Object.TheVariants as object
 use Rattle.vm_outside.specs.Known.{Health, Lasts}
-use Rattle.firecracker_cli.proofs.Rising.{later_rose, rose_later}
+use Rattle.vm_outside.proofs.Passing.{later_rose, rose_later}
 use Rattle.monitor_serving.specs.Connections.{EndCause}
 use Rattle.monitor_serving.specs.declared.served.Served.{Served}
 use Rattle.monitor_serving.specs.declared.served.Served.TheVariants as served

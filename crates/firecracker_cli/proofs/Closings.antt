@@ -7,6 +7,7 @@ use Rattle.vm_types.specs.declared.exit.Object.{Object}
 use Rattle.vm_types.specs.declared.exit.Object.TheVariants as object
 use Rattle.vm_outside.specs.Known.{Health, SinkKnown, Tells}
 use Rattle.vm_outside.specs.Passing.{TakesPart}
+use Rattle.vm_outside.proofs.Passing.{later_rose, rose_later}
 use Rattle.vm_host.specs.Storing.{DiskKnown}
 use Rattle.vm_host.specs.Telling.{ClockKnown}
 use Rattle.serve_host.specs.Drawing.{WordsKnown}
@@ -15,14 +16,15 @@ use Rattle.command_line.specs.Commands.{ServeWords}
 use Rattle.serve_host.specs.Tracing.{TraceKnown}
 use Rattle.script_text.specs.declared.item.Item.{Item}
 use Rattle.script_text.specs.declared.item.Item.TheVariants as item
-use Rattle.script_output.specs.Output.{off_line}
+use Rattle.responses.specs.Output.{off_line}
 use Rattle.slice_runner.specs.Runs.{HasAnswered}
 use Rattle.flat_guest.specs.Guest.{Guest}
-use Rattle.flat_machine.specs.Machine.{AreFilesOf, Machine, console_by, console_of, drained, drained_guest, is_off, off_by}
+use Rattle.flat_machine.specs.Machine.{AreFilesOf, Machine, console_by, console_of, drained, drained_guest, is_off}
 use Rattle.flat_machine.specs.Run.{Act}
 use Rattle.flat_trace.specs.Events.{answers_in, drain_items}
 use Rattle.flat_trace.specs.Showing.{Out, Run, items_of, said, shown}
 use Rattle.flat_trace.specs.Showing.Out.{Shown}
+use Rattle.flat_trace.proofs.Behind.{drain_empty, drain_off}
 use Rattle.monitor_core.specs.declared.monitor.Monitor.{Monitor}
 use Rattle.monitor_running.specs.Asked.{AnsweredSince, DisksAnswered, HostKnown}
 use Rattle.monitor_running.specs.Reached.{Reached, Seen, Start, known, seen, told_at}
@@ -34,7 +36,6 @@ use Rattle.monitor_serving.specs.Views.{Hosts, hosts}
 use Rattle.firecracker_cli.specs.Closing.{CloseFault, DrainStops, Drained, last_shown}
 use Rattle.firecracker_cli.specs.Serving.{AllTold, HasLineage, IsKept, IsOpen, ServeKnown, ServedAll, ServedPart, TraceRan, closing_line, serve_known}
 use Rattle.firecracker_cli.specs.SoFar.{CameToEnd, Cut, IsFinished, LeftBy, ServedSoFar, start_at, with_trace}
-use Rattle.firecracker_cli.proofs.Rising.{later_rose, rose_later}
 use Rattle.firecracker_cli.proofs.Lineages.{all_acts, all_begun, all_outs, all_ran, all_took}
 use Rattle.monitor_serving.proofs.Connections.{in_part}
 
@@ -153,14 +154,6 @@ drained_reached s old now m talk r told sunk same =
     (record { clock = drain_untimed bytes old.host.clock; disk = drain_answered begun m (drained m) bytes run old.host.disk }))
     (drain_unlineaged bytes)
 
-console_drained : (guest : Option Guest) → console_by (drained_guest guest) ≡ []
-console_drained None = refl
-console_drained (Some g) = refl
-
-off_drained : (guest : Option Guest) → off_by (drained_guest guest) ≡ off_by guest
-off_drained None = refl
-off_drained (Some g) = refl
-
 -- ---- what was told whole was told in part
 
 off_in_part : (talk : List Out) (since : List Ended) → AreToldOff talk since → AreToldInPart talk since
@@ -173,7 +166,7 @@ all_in_part last talk since (inr told) = off_in_part talk since told.1
 
 all_drained : (last : Machine) (talk : List Out) (since : List Ended) → AllTold last talk since → AllTold (drained last) talk since
 all_drained last talk since (inl told) = inl told
-all_drained last talk since (inr told) = inr (off_drained last.guest ∙ told.0, told.1)
+all_drained last talk since (inr told) = inr (drain_off last.guest ∙ told.0, told.1)
 
 -- ---- serving that came to its end
 
@@ -235,14 +228,14 @@ module _ (given : ServeWords) (before : ServeKnown) (monitor : Monitor) (mid : H
         ∙ ap (λ (l : List ℕ). l ++ closing_line it.last) r.sink
         ∙ append_assoc before.hosts.slices.sink.taken (shown r.outs) (closing_line it.last)
         ∙ ap (λ (off : Bool). before.hosts.slices.sink.taken ++ (shown r.outs ++ (if off then off_line else [])))
-        (sym (off_drained it.last.guest))
+        (sym (drain_off it.last.guest))
 
     told_last : AllTold last (said r.outs) it.since
     told_last = subst (λ t. AllTold last t it.since) r.talks (all_drained it.last it.talk it.since it.told)
 
     over_last : (listener.coming ≡ []) ⊎ (is_off it.last ≡ true) → (listener.coming ≡ []) ⊎ (is_off last ≡ true)
     over_last (inl over) = inl over
-    over_last (inr off) = inr (off_drained it.last.guest ∙ off)
+    over_last (inr off) = inr (drain_off it.last.guest ∙ off)
 
     files_last : AreFilesOf mid.files last
     files_last = record { saved_is = it.stands.is.files.saved_is; calls_is = it.stands.is.files.calls_is }
@@ -279,7 +272,7 @@ module _ (given : ServeWords) (before : ServeKnown) (monitor : Monitor) (mid : H
       over = over_last it.over;
       came = it.came;
       sink = whole_text sink.taken sunk;
-      drained = console_drained it.last.guest;
+      drained = drain_empty it.last.guest;
       told = told_last;
       files = files_last;
     }

@@ -6,10 +6,11 @@ use Rattle.vm_types.specs.declared.exit.Exit.{Exit}
 use Rattle.vm_types.specs.declared.exit.Object.TheVariants as object
 use Rattle.vm_outside.specs.Known.{Called, SinkKnown}
 use Rattle.vm_outside.specs.Passing.{TakesAll}
+use Rattle.vm_outside.proofs.Passing.{later_rose}
 use Rattle.command_line.specs.Commands.{ServeWords}
 use Rattle.serve_host.specs.Drawing.{WordsKnown}
 use Rattle.serve_host.specs.Listening.{ListenerKnown}
-use Rattle.script_output.specs.Output.{last_line}
+use Rattle.responses.specs.Output.{last_line}
 use Rattle.flat_machine.specs.Machine.{Machine}
 use Rattle.flat_machine.specs.Run.{Act}
 use Rattle.flat_trace.specs.Showing.{shown}
@@ -18,7 +19,6 @@ use Rattle.monitor_running.specs.Reached.{known}
 use Rattle.monitor_serving.specs.Views.{Hosts, hosts}
 use Rattle.firecracker_cli.specs.Serving.{HasBegun, HasNotBegun, ServeKnown, ServedAll, ServedBy, ServedPart, SinkLacks, last_text, serve_known}
 use Rattle.firecracker_cli.specs.SoFar.{Cut, ServedSoFar}
-use Rattle.firecracker_cli.proofs.Rising.{later_rose}
 
 dropped_less : (n : ℕ) (text : List ℕ) → length (drop n text) ≤ length text
 dropped_less n text = omega (arith, length-drop n text)

@@ -3,6 +3,5 @@ pub mod Causes
 pub mod Closings
 pub mod Endings
 pub mod Lineages
-pub mod Rising
 pub mod Serves
 mod Refusals

@@ -2,7 +2,8 @@
 use Rattle.std.proofs.Common.{◌≡◌, ◌⊎◌, ℕ, inl, inr, refl, sym, ap, subst, ◌∙◌, List, ◌++◌, append_assoc, Option, Some, None}
 use Rattle.vm_types.specs.declared.exit.Exit.{Exit}
 use Rattle.vm_outside.specs.Known.{Lasts, SinkKnown, Tells}
-use Rattle.script_output.specs.Output.{last_line}
+use Rattle.vm_outside.proofs.Passing.{lasts_same}
+use Rattle.responses.specs.Output.{last_line}
 use Rattle.flat_machine.specs.Run.{Act}
 use Rattle.flat_trace.specs.Showing.{shown}
 use Rattle.std.specs.Prelude.{option_and_then}
@@ -14,7 +15,6 @@ use Rattle.monitor_running.specs.Reached.{known}
 use Rattle.monitor_serving.specs.Views.{hosts}
 use Rattle.firecracker_cli.specs.Serving.{HasBegun, HasNotBegun, ServeKnown, ServedPart, Serves, serve_known}
 use Rattle.firecracker_cli.proofs.Beginnings.{nothing_served}
-use Rattle.firecracker_cli.proofs.Rising.{lasts_same}
 
 module _ (given : ServeWords) (before : ServeKnown) (sink : SinkKnown) where
   abbrev now : ServeKnown

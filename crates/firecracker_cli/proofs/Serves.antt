@@ -3,12 +3,12 @@ use Rattle.std.proofs.Common.{◌≡◌, Result}
 use Rattle.vm_types.specs.declared.exit.Exit.{Exit}
 use Rattle.vm_outside.specs.Known.{Called, SinkKnown, Tells}
 use Rattle.vm_outside.specs.Passing.{TakesAll}
+use Rattle.vm_outside.proofs.Passing.{lasts_more, lasts_same}
 use Rattle.command_line.specs.Commands.{ServeWords}
 use Rattle.serve_host.specs.Drawing.{WordsKnown}
 use Rattle.serve_host.specs.Listening.{ListenerKnown}
-use Rattle.script_output.specs.Output.{last_line}
+use Rattle.responses.specs.Output.{last_line}
 use Rattle.monitor_cli.specs.Taking.{IsQuiet}
-use Rattle.firecracker_cli.proofs.Rising.{lasts_more, lasts_same}
 use Rattle.monitor_running.specs.Reached.{known}
 use Rattle.monitor_serving.specs.Views.{Hosts, hosts}
 use Rattle.firecracker_cli.specs.Serving.{ServeCause, ServeKnown, Serves, ServersLast, ServersTell, serve_known}

@@ -13,7 +13,7 @@ use Rattle.command_line.specs.Commands.{ServeWords}
 use Rattle.serve_host.specs.Tracing.{TraceKnown}
 use Rattle.script_text.specs.declared.item.Item.{Item}
 use Rattle.script_text.specs.declared.item.Item.TheVariants as item
-use Rattle.script_output.specs.Output.{last_line, off_line}
+use Rattle.responses.specs.Output.{last_line, off_line}
 use Rattle.flat_machine.specs.Machine.{AreFilesOf, Machine, console_of, is_off, new_machine}
 use Rattle.flat_machine.specs.Run.{Act}
 use Rattle.flat_trace.specs.Events.{quiet_act}

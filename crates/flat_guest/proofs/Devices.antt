@@ -29,7 +29,7 @@ use Rattle.flat_guest.proofs.SameKinds.{did_kinds, ports_same, reset_kinds, show
 use Rattle.flat_guest.proofs.Lengths.{pages_kept}
 use Rattle.flat_guest.proofs.Lists.{get_set_other, get_set_same, mapped_from, some_is}
 
-port_many : (o : Option PortState) (ports : List PortState) (k : ℕ) (actor : ActorId) (op : Op)
+pub port_many : (o : Option PortState) (ports : List PortState) (k : ℕ) (actor : ActorId) (op : Op)
     → length (port_after o ports k actor op) ≡ length ports
 port_many None ports k actor op = refl
 port_many (Some p) ports k actor op = length-set ports k (port.touch p actor op).1

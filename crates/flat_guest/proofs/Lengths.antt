@@ -9,10 +9,13 @@ use Rattle.guest_memory.specs.Memory.{Memory, read_from, reserving, touch, word_
 use Rattle.guest_memory.specs.Ram.{is_ram, page_size, ram_start}
 use Rattle.guest_memory.specs.Reserved.{first_slot, granule_of, held_by, is_granule}
 use Rattle.guest_memory.specs.Words.{width_of, word_bytes}
-use Rattle.guest_pages.proofs.Staying.{length-word_bytes}
 use Rattle.flat_guest.specs.Guest.{whole_pages}
 use Rattle.flat_guest.specs.Steps.{memory_after}
+<<<<<<< 8bde38ab
+use Rattle.guest_memory.proofs.Keeping.{put_long, word_long}
+=======
 use Rattle.guest_memory.proofs.Keeping.{put_long}
+>>>>>>> m
 
 module _ (m : Memory) (actor : ActorId) where
   abbrev IsAsLong : Reply × Memory → Type 0
@@ -42,7 +45,7 @@ module _ (m : Memory) (actor : ActorId) where
   put_word : (ram : Bool) (reply : Reply) (at : ℕ) (wide : Bool) (word : ℕ) → is_ram (length m.bytes) at (width_of wide) ≡ ram
       → IsAsLong (cond ram (reply, written m actor at (word_bytes wide word)) (Reply.AccessFault, m))
   put_word ram reply at wide word is =
-      put_by ram reply at (width_of wide) (word_bytes wide word) (length-word_bytes wide word) is
+      put_by ram reply at (width_of wide) (word_bytes wide word) (word_long wide word) is
 
   stored_by : (own ram : Bool) (at n : ℕ) (piece : List ℕ) → length piece ≡ n → is_ram (length m.bytes) at n ≡ ram
       → IsAsLong (cond ram (cond own (Reply.Word 0, reserving (written m actor at piece) actor at None)
@@ -61,7 +64,7 @@ module _ (m : Memory) (actor : ActorId) where
       reserved_long (is_ram (length m.bytes) at (width_of wide)) (Reply.Word (word_at m at wide)) _ refl
   touch_long (Op.Sc at value wide) =
       stored_by (is_granule (granule_of at) (held_by m.reserved (first_slot at) actor)) (is_ram (length m.bytes) at (width_of wide))
-      at (width_of wide) (word_bytes wide value) (length-word_bytes wide value) refl
+      at (width_of wide) (word_bytes wide value) (word_long wide value) refl
   touch_long (Op.Port port act) = refl
   touch_long (Op.Board act) = refl
   touch_long (Op.Out act) = refl

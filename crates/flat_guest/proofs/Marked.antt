@@ -1,6 +1,6 @@
 -- The pages are marked that were written: at first none, and after an event as before it.
 use Rattle.std.proofs.Common.{◌≡◌, ℕ, zero, suc, ◌==◌, Bool, true, false, cond, ◌&&◌, ◌||◌, refl, sym, ap, ◌∙◌, List, [], ◌∷◌, Some, replicate, slice_get, slice_set}
-use Rattle.std.proofs.lemmas.Bool.{eqb-false, eqb-true}
+use Rattle.std.proofs.lemmas.Bool.{and_right, eqb-false, eqb-true}
 use Rattle.vm_types.specs.declared.ids.PlaceId.{PlaceId}
 use Rattle.vm_types.specs.declared.op.Op.{Op}
 use Rattle.vm_types.specs.declared.reply.Reply.{Reply}
@@ -22,10 +22,6 @@ or_false : (a : Bool) → a ≡ (a || false)
 or_false true = refl
 or_false false = refl
 
-and_false : (a : Bool) → (a && false) ≡ false
-and_false true = refl
-and_false false = refl
-
 module _ (marks : List Bool) (written : ℕ → Bool) (are : AreMarks marks written) where
   -- the page of this number is written, or another
   at_page : (same : Bool) (k i : ℕ) (m : Bool) → (k == i) ≡ same → slice_get (slice_set marks k true) i ≡ Some m
@@ -41,7 +37,7 @@ module _ (marks : List Bool) (written : ℕ → Bool) (are : AreMarks marks writ
       → m ≡ (written i || ((k == i) && wrote))
   by_written true k i m is = at_page (k == i) k i m refl is
   by_written false k i m is =
-      are i m is ∙ or_false (written i) ∙ ap (λ (b : Bool). written i || b) (sym (and_false (k == i)))
+      are i m is ∙ or_false (written i) ∙ ap (λ (b : Bool). written i || b) (sym (and_right (k == i) false refl))
 
   pub marks_on : (place : PlaceId) (op : Op) (reply : Reply)
       → AreMarks (marks_after place marks op reply)

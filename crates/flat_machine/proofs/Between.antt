@@ -53,7 +53,11 @@ use Rattle.flat_machine.specs.Outcome.{Left, Outcome}
 use Rattle.flat_machine.specs.Outcome.Outcome.{Answered, Failed, NoMemory}
 use Rattle.flat_machine.specs.Machine.{Machine, drained, drained_guest, phase_by, phase_of, running_by}
 use Rattle.flat_machine.specs.Items.{ItemStep, MemoryLine, RegisterLine, RepliesLine, StepsLine, Talks}
+<<<<<<< 8bde38ab
+use Rattle.responses.specs.Responses.{Response}
+=======
 use Rattle.response_form.specs.Responses.{Response}
+>>>>>>> m
 use Rattle.flat_machine.specs.Requests.{CreateFails, Creates, Fails, Leaves, LeavesBy, RequestStep, Stores, allowed, configured, halted, next_identity, patched_balloon, patched_drive, patched_interface, patched_statistics, relimited, resized, retargeted, retimed, sectors_of, shows_by, told_at}
 use Rattle.flat_machine.specs.Run.{Act, Run}
 use Rattle.flat_machine.proofs.Allowed.{IsAllowed, allowed_is}
@@ -119,7 +123,7 @@ IsLater (change.BootSource source) = ⊥
 IsLater (change.PutDrive drive) = ⊥
 IsLater (change.PutInterface interface) = ⊥
 IsLater (change.MachineConfig machine) = ⊥
-<<<<<<< f4895c43
+<<<<<<< 8bde38ab
 IsLater (change.PutVsock vsock) = ⊥
 IsLater (change.PutBalloon balloon) = ⊥
 IsLater (change.MmdsConfig mmds) = ⊥
@@ -130,13 +134,13 @@ IsLater change.Start = ⊥
 IsLater (change.LoadSnapshot load) = ⊥
 IsLater it = Unit {0}
 
-too_late : {A : Type 0} (p : Phase) → has_started p ≡ true → misplaced BeforeBoot p ≡ None → A
+pub too_late : {A : Type 0} (p : Phase) → has_started p ≡ true → misplaced BeforeBoot p ≡ None → A
 too_late phase.NotStarted started placed = absurd cc
 too_late phase.Running started placed = absurd cc
 too_late phase.Paused started placed = absurd cc
 
 -- one that comes at its time
-at_its_time : (p : Phase) (config : Config) (c : ApiCall) → has_started p ≡ true → misplaced (when_allowed c) p ≡ None
+pub at_its_time : (p : Phase) (config : Config) (c : ApiCall) → has_started p ≡ true → misplaced (when_allowed c) p ≡ None
     → IsLater (change_of config c)
 at_its_time p config (call.PutBootSource source) started placed = too_late p started placed
 at_its_time p config (call.PutDrive drive) started placed = too_late p started placed
@@ -145,7 +149,7 @@ at_its_time p config (call.PutInterface interface) started placed = too_late p s
 at_its_time p config (call.PatchInterface patch) started placed = tt
 at_its_time p config (call.PutMachineConfig machine) started placed = too_late p started placed
 at_its_time p config (call.PatchMachineConfig patch) started placed = too_late p started placed
-<<<<<<< f4895c43
+<<<<<<< 8bde38ab
 at_its_time p config (call.PutVsock vsock) started placed = too_late p started placed
 at_its_time p config (call.PutBalloon balloon) started placed = too_late p started placed
 at_its_time p config (call.PatchBalloon patch) started placed = tt
@@ -270,7 +274,7 @@ leaves_on g (change.PatchInterface patch) m n there later is =
     relimited_keeps h.0 transmits_told patch.tx_rate_limiter number (relimited receives_told patch.rx_rate_limiter number m.guest) h.1 in
     moved g m n after is (by_events g q.0 m after q.1 refl refl (keeps_both g h.0 q.0 h.2 q.2))
 leaves_on g (change.MachineConfig machine) m n there later is = absurd later
-<<<<<<< f4895c43
+<<<<<<< 8bde38ab
 leaves_on g (change.PutVsock vsock) m n there later is = absurd later
 =======
 >>>>>>> m
@@ -283,7 +287,7 @@ leaves_on g (change.PatchStatistics patch) m n there later is =
     let after : Machine = configured (patched_statistics m patch) (change.PatchStatistics patch) in
     let h = retimed_keeps g (with_interval patch m.config.balloon) (balloon_device m.config) m.guest there in
     moved g m n after is (by_events g h.0 m after h.1 refl refl h.2)
-<<<<<<< f4895c43
+<<<<<<< 8bde38ab
 leaves_on g (change.MmdsConfig mmds) m n there later is = absurd later
 =======
 >>>>>>> m
@@ -322,7 +326,7 @@ fails_on g change.Start m left n there x = same g m n there x.1
 fails_on g (change.State state) m left n there x = absurd x
 fails_on g (change.CreateSnapshot it) m left n there x = create_fails_on g m.guest m it left n there x
 fails_on g (change.LoadSnapshot load) m left n there x = same g m n there x.1
-<<<<<<< f4895c43
+<<<<<<< 8bde38ab
 fails_on g (change.PutVsock vsock) m left n there x = absurd x
 fails_on g (change.PutBalloon balloon) m left n there x = absurd x
 fails_on g (change.PatchBalloon patch) m left n there x = absurd x

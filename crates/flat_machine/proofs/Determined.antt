@@ -27,7 +27,7 @@ use Rattle.script_text.specs.declared.item.Item.{Item}
 use Rattle.script_text.specs.declared.item.Item.TheVariants as item
 use Rattle.script_text.specs.declared.output.Misfit.TheVariants as misfit
 use Rattle.script_text.specs.Output.{register_line}
-use Rattle.response_form.specs.Responses.{Response}
+use Rattle.responses.specs.Responses.{Response}
 use Rattle.guest_devices.specs.declared.device.Device.{Device}
 use Rattle.flat_guest.specs.Changes.{reset_guest}
 use Rattle.flat_guest.specs.Guest.{Guest, is_actor}
@@ -128,7 +128,7 @@ result_one (Ok (change.PatchDrive patch)) m kept n k x y = x.1 ∙ sym y.1
 result_one (Ok (change.PutInterface interface)) m kept n k x y = x.1 ∙ sym y.1
 result_one (Ok (change.PatchInterface patch)) m kept n k x y = x.1 ∙ sym y.1
 result_one (Ok (change.MachineConfig machine)) m kept n k x y = x.1 ∙ sym y.1
-<<<<<<< f4895c43
+<<<<<<< 8bde38ab
 result_one (Ok (change.PutVsock vsock)) m kept n k x y = x.1 ∙ sym y.1
 result_one (Ok (change.PutBalloon balloon)) m kept n k x y = x.1 ∙ sym y.1
 result_one (Ok (change.PatchBalloon patch)) m kept n k x y = x.1 ∙ sym y.1
@@ -156,7 +156,7 @@ fails_one (change.PatchDrive patch) m left n k x y = x.3 ∙ sym y.3
 fails_one (change.PutInterface interface) m left n k x y = absurd x
 fails_one (change.PatchInterface patch) m left n k x y = absurd x
 fails_one (change.MachineConfig machine) m left n k x y = absurd x
-<<<<<<< f4895c43
+<<<<<<< 8bde38ab
 fails_one (change.PutVsock vsock) m left n k x y = absurd x
 fails_one (change.PutBalloon balloon) m left n k x y = absurd x
 fails_one (change.PatchBalloon patch) m left n k x y = absurd x

@@ -10,7 +10,7 @@ use Rattle.api_calls.specs.declared.balloon.Balloon.{Balloon}
 use Rattle.api_calls.specs.declared.call.Drive.{Drive}
 use Rattle.api_calls.specs.declared.call.DrivePatch.{DrivePatch}
 use Rattle.api_calls.specs.declared.interface.Interface.{Interface}
-<<<<<<< f4895c43
+<<<<<<< 8bde38ab
 use Rattle.api_calls.specs.declared.vsock.Vsock.{Vsock}
 =======
 >>>>>>> m
@@ -230,7 +230,7 @@ module _ (drive : Drive) (drives : List Drive) (is : AreDrives drives) (own : is
   roots_put false known = few_pushed known (is_root drive) refl
 
   -- where there is room for one more, if it is one
-<<<<<<< f4895c43
+<<<<<<< 8bde38ab
   count_put : (interfaces : List Interface) (vsock : Option Vsock) (balloon : Option Balloon) (there : Bool) → has_room drives interfaces vsock balloon ≡ true
       → (not there && nat_le 16 (count_in drives interfaces vsock balloon)) ≡ false
       → count_in (if there then with_changed drive.drive_id (λ d. drive) drives else drives ++ drive ∷ []) interfaces vsock balloon ≤ 16
@@ -279,7 +279,7 @@ put_told drive drives interfaces balloon are fits own roots room =
         apart = apart_put id_of_drive drives drive is.apart;
         root = roots_put drive drives is own roots (has_drive drives drive.drive_id) refl;
       }),
-<<<<<<< f4895c43
+<<<<<<< 8bde38ab
       le-leb (count_in (put_drive drives drive) interfaces vsock balloon) 16 count,
 =======
       le-leb (count_in (put_drive drives drive) interfaces balloon) 16 count,

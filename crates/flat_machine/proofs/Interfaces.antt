@@ -6,7 +6,7 @@ use Rattle.api_calls.specs.declared.balloon.Balloon.{Balloon}
 use Rattle.api_calls.specs.declared.call.Drive.{Drive}
 use Rattle.api_calls.specs.declared.interface.Interface.{Interface}
 use Rattle.api_calls.specs.declared.interface.InterfacePatch.{InterfacePatch}
-<<<<<<< f4895c43
+<<<<<<< 8bde38ab
 use Rattle.api_calls.specs.declared.vsock.Vsock.{Vsock}
 =======
 >>>>>>> m
@@ -17,7 +17,7 @@ use Rattle.vm_config.specs.Interfaces.{has_interface, id_of_interface, patch_int
 use Rattle.vm_config.specs.Named.{are_apart, changed_in}
 use Rattle.vm_config.proofs.Apart.{apart_changed, apart_put, each_changed, each_put, length-changed}
 use Rattle.snap_state.specs.Valid.{are_interfaces, has_room, is_interface}
-<<<<<<< f4895c43
+<<<<<<< 8bde38ab
 =======
 use Rattle.flat_machine.specs.Ready.{AreLinked}
 >>>>>>> m
@@ -50,7 +50,7 @@ many_patched patch interfaces = length-changed id_of_interface patch.iface_id (p
 -- ---- an interface that is put
 
 -- where there is room for one more, if it is one
-<<<<<<< f4895c43
+<<<<<<< 8bde38ab
 count_put : (drives : List Drive) (interface : Interface) (interfaces : List Interface) (vsock : Option Vsock) (balloon : Option Balloon) (there : Bool)
     → has_room drives interfaces vsock balloon ≡ true → (not there && nat_le 16 (count_in drives interfaces vsock balloon)) ≡ false
     → count_in drives (if there then changed_in id_of_interface interface.iface_id (λ i. interface) interfaces else interfaces ++ interface ∷ []) vsock balloon

@@ -5,7 +5,7 @@ pub mod Determined
 pub mod Drives
 pub mod Fields
 pub mod Interfaces
-<<<<<<< f4895c43
+<<<<<<< 8bde38ab
 pub mod Mmds
 =======
 >>>>>>> m

@@ -66,7 +66,7 @@ asked_for config (call.PutInterface interface) it is = absurd cc
 asked_for config (call.PatchInterface patch) it is = absurd cc
 asked_for config (call.PutMachineConfig machine) it is = absurd cc
 asked_for config (call.PatchMachineConfig patch) it is = absurd cc
-<<<<<<< f4895c43
+<<<<<<< 8bde38ab
 asked_for config (call.PutVsock vsock) it is = absurd cc
 asked_for config (call.PutBalloon balloon) it is = absurd cc
 asked_for config (call.PatchBalloon patch) it is = absurd cc

@@ -10,7 +10,7 @@ use Rattle.script_text.specs.declared.item.Item.TheVariants as item
 use Rattle.api_calls.specs.declared.call.SnapshotCreate.{SnapshotCreate}
 use Rattle.vm_config.specs.declared.change.Change.{Change}
 use Rattle.vm_config.specs.declared.change.Change.TheVariants as change
-use Rattle.response_form.specs.Responses.{Response}
+use Rattle.responses.specs.Responses.{Response}
 use Rattle.guest_devices.specs.declared.device.Device.{Device}
 use Rattle.guest_devices.specs.Devices.{FlatDevice, device_reset}
 use Rattle.flat_guest.specs.Guest.{Guest}

@@ -14,7 +14,6 @@ use Rattle.metadata_store.specs.Store.{patched, put}
 use Rattle.guest_memory.specs.Ram.{is_ram}
 use Rattle.port_table.specs.declared.kind.DeviceKind.{DeviceKind}
 use Rattle.flat_guest.specs.Given.{Event, Given}
-use Rattle.flat_guest.specs.Given.Given.{Nothing}
 use Rattle.hart_trace.specs.Asks.{is_host_op}
 use Rattle.http_stream.specs.Stream.{Connection}
 use Rattle.http_stream.specs.declared.request.Next.{Next}
@@ -37,7 +36,7 @@ use Rattle.vm_config.specs.Drives.{device_of}
 use Rattle.api_rules.specs.Table.{has_started}
 use Rattle.script_text.specs.declared.item.Item.{Item}
 use Rattle.script_text.specs.declared.item.Item.TheVariants as item
-use Rattle.response_form.specs.Responses.{Response}
+use Rattle.responses.specs.Responses.{Response}
 use Rattle.guest_devices.specs.declared.device.Device.{Device}
 use Rattle.guest_devices.specs.declared.new_device.NewDevice.{NewDevice}
 use Rattle.guest_devices.specs.Ports.{port_at_start}
@@ -69,7 +68,11 @@ use Rattle.flat_machine.specs.Run.{Act, Run}
 use Rattle.flat_machine.proofs.Allowed.{IsAllowed, allowed_is, not_refused}
 use Rattle.flat_machine.proofs.Between.{allowed_later, by_either, leaves_of, one_many, several_many, started}
 use Rattle.flat_machine.proofs.Numbered.{found_numbered}
+<<<<<<< 8bde38ab
+use Rattle.flat_machine.proofs.ReadyGuests.{drained_ready, halted_ready, made_sound, reset_ready, resumed_ready, unwritten_ready}
+=======
 use Rattle.flat_machine.proofs.ReadyGuests.{drained_ready, halted_ready, reset_ready, resumed_ready, unwritten_ready}
+>>>>>>> m
 use Rattle.flat_machine.proofs.Reconfigured.{amount_patched, drive_patched, interface_patched, interval_patched, relimited_ready, resized_ready, retargeted_ready, retimed_ready, start_kinds, start_many}
 use Rattle.flat_machine.proofs.Sizes.{booted_size, devices_fit, start_fits}
 use Rattle.flat_machine.proofs.Taken.{allowed_fits, bounded, changed_taken, configured_taken, default_taken, taken_configured}
@@ -179,7 +182,7 @@ module _ (m : Machine) (image : List ℕ) (ready : Ready m) (there : image_of m 
             source = source_there.source;
             drives = source_there.drives;
             interfaces = source_there.interfaces;
-<<<<<<< f4895c43
+<<<<<<< 8bde38ab
             vsock = source_there.vsock;
             mmds = source_there.mmds;
 =======
@@ -278,7 +281,7 @@ leaves_ready (change.PatchInterface patch) m n ready known is =
     let it : Change = change.PatchInterface patch in
     ready_is (configured (patched_interface m patch) it) n is
     (limits_ready m patch ready (changed_taken m.config it ready.taken (allowed_fits m it ready.taken known)))
-<<<<<<< f4895c43
+<<<<<<< 8bde38ab
 leaves_ready (change.PutVsock vsock) m n ready known is =
     let it : Change = change.PutVsock vsock in
     ready_is (configured m it) n is
@@ -297,7 +300,7 @@ leaves_ready (change.PatchStatistics patch) m n ready known is =
     let it : Change = change.PatchStatistics patch in
     ready_is (configured (patched_statistics m patch) it) n is
     (interval_ready m patch ready (changed_taken m.config it ready.taken (allowed_fits m it ready.taken known)))
-<<<<<<< f4895c43
+<<<<<<< 8bde38ab
 leaves_ready (change.MmdsConfig mmds) m n ready known is =
     let it : Change = change.MmdsConfig mmds in
     ready_is (configured m it) n is
@@ -344,7 +347,7 @@ fails_ready (change.CreateSnapshot it) m left n ready x = create_fails_ready m.g
 fails_ready (change.LoadSnapshot load) m left n ready x = ready_is m n x.1 ready
 fails_ready (change.PutInterface interface) m left n ready x = absurd x
 fails_ready (change.PatchInterface patch) m left n ready x = absurd x
-<<<<<<< f4895c43
+<<<<<<< 8bde38ab
 fails_ready (change.PutVsock vsock) m left n ready x = absurd x
 fails_ready (change.PutBalloon balloon) m left n ready x = absurd x
 fails_ready (change.PatchBalloon patch) m left n ready x = absurd x
@@ -386,11 +389,6 @@ talks_ready bytes outcomes m n said ready (after, mid, talk, is) =
     ready_is (record mid { connection = after }) n is (record { taken = left.taken; guest = left.guest; next = left.next; base = left.base })
 
 -- ---- events
-
-made_sound : (es : List Entry) (g h : Guest) (actor : ActorId) → Makes g actor es h → IsSound g → IsSound h
-made_sound [] g h actor made sound = subst (λ (q : Guest). IsSound q) made sound
-made_sound (e ∷ es) g h actor (unstamped, mid, step, more) sound =
-    made_sound es mid h actor more (sound_next g (record { actor = actor; given = Nothing }) e mid sound step)
 
 -- the guest that runs is another one after events
 runs_ready : (m : Machine) (g h : Guest) → Ready m → IsReadyGuest m.config false g → m.paused ≡ false → IsSound h

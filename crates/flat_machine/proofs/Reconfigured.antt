@@ -13,7 +13,7 @@ use Rattle.api_calls.specs.declared.call.MachineConfig.{MachineConfig}
 use Rattle.api_calls.specs.declared.interface.Interface.{Interface}
 use Rattle.api_calls.specs.declared.interface.InterfacePatch.{InterfacePatch}
 use Rattle.api_calls.specs.declared.limiter.Limiter.{Limiter}
-<<<<<<< f4895c43
+<<<<<<< 8bde38ab
 use Rattle.api_calls.specs.declared.vsock.Vsock.{Vsock}
 use Rattle.vm_config.specs.declared.config.Config.{Config}
 use Rattle.vm_config.specs.declared.change.Change.TheVariants as change
@@ -60,7 +60,7 @@ things_alike of kind is (a ∷ things) (b ∷ others) rest more many alike =
     ap (λ (k : DeviceKind). k ∷ map kind_configured (map of things ++ rest)) (is a ∙ sym (is b))
     ∙ ap (λ (l : List DeviceKind). kind_configured (of b) ∷ l) (things_alike of kind is things others rest more (omega (arith, many)) alike)
 
-<<<<<<< f4895c43
+<<<<<<< 8bde38ab
 kinds_alike : (drives others : List Drive) (interfaces links : List Interface) (vsock : Option Vsock) (balloon other : Option Balloon)
     → length drives ≡ length others → length interfaces ≡ length links
     → map kind_configured (balloon_devices balloon) ≡ map kind_configured (balloon_devices other)
@@ -115,7 +115,7 @@ from_kinds : (configured : List Configured) (saved : Saved) → kinds_at_start (
 from_kinds [] saved = refl
 from_kinds (of_drive d ∷ others) saved = ap (λ (l : List DeviceKind). numbers.Block ∷ l) (from_kinds others saved)
 from_kinds (of_interface i ∷ others) saved = ap (λ (l : List DeviceKind). numbers.Net ∷ l) (from_kinds others saved)
-<<<<<<< f4895c43
+<<<<<<< 8bde38ab
 from_kinds (of_vsock v ∷ others) saved = ap (λ (l : List DeviceKind). numbers.Vsock ∷ l) (from_kinds others saved)
 =======
 >>>>>>> m
@@ -149,7 +149,7 @@ module _ (config after : Config) (paused : Bool) (taken : IsTaken after) (source
             subst (λ (s : Option BootSource). is_source (source_of s) ≡ true) (sym source) is.ready.configured.source;
         drives = taken.drives;
         interfaces = taken.interfaces;
-<<<<<<< f4895c43
+<<<<<<< 8bde38ab
         vsock = taken.vsock;
         mmds = taken.mmds;
 =======
@@ -170,7 +170,7 @@ pub drive_patched : (config : Config) (patch : DrivePatch) (paused : Bool) (gues
 drive_patched config patch paused guest taken is =
     let after : Config = changed config (change.PatchDrive patch) in
     let many = length-patched patch config.drives in
-<<<<<<< f4895c43
+<<<<<<< 8bde38ab
     let kinds = kinds_alike config.drives after.drives config.interfaces config.interfaces config.vsock config.balloon config.balloon (sym many) refl refl in
     let count = ap (λ (n : ℕ). n + length config.interfaces + vsock_count config.vsock + balloon_count config.balloon) (sym many) in
 =======
@@ -185,7 +185,7 @@ pub interface_patched : (config : Config) (patch : InterfacePatch) (paused : Boo
 interface_patched config patch paused guest taken is =
     let after : Config = changed config (change.PatchInterface patch) in
     let many = many_patched patch config.interfaces in
-<<<<<<< f4895c43
+<<<<<<< 8bde38ab
     let kinds = kinds_alike config.drives config.drives config.interfaces after.interfaces config.vsock config.balloon config.balloon refl (sym many) refl in
     let count = ap (λ (n : ℕ). length config.drives + n + vsock_count config.vsock + balloon_count config.balloon) (sym many) in
 =======
@@ -198,7 +198,7 @@ pub amount_patched : (config : Config) (patch : BalloonPatch) (paused : Bool) (g
     → ReadyBy config paused guest → ReadyBy (changed config (change.PatchBalloon patch)) paused guest
 amount_patched config patch paused guest taken is =
     let after : Config = changed config (change.PatchBalloon patch) in
-<<<<<<< f4895c43
+<<<<<<< 8bde38ab
     let kinds = kinds_alike config.drives config.drives config.interfaces config.interfaces config.vsock config.balloon after.balloon refl refl (amount_alike patch config.balloon) in
     let count = ap (λ (n : ℕ). length config.drives + length config.interfaces + vsock_count config.vsock + n) (amount_count patch config.balloon) in
 =======
@@ -212,7 +212,7 @@ pub interval_patched : (config : Config) (patch : StatisticsPatch) (paused : Boo
     → ReadyBy (changed config (change.PatchStatistics patch)) paused guest
 interval_patched config patch paused guest taken is =
     let after : Config = changed config (change.PatchStatistics patch) in
-<<<<<<< f4895c43
+<<<<<<< 8bde38ab
     let kinds = kinds_alike config.drives config.drives config.interfaces config.interfaces config.vsock config.balloon after.balloon refl refl (interval_alike patch config.balloon) in
     let count = ap (λ (n : ℕ). length config.drives + length config.interfaces + vsock_count config.vsock + n) (interval_count patch config.balloon) in
 =======

@@ -1,5 +1,9 @@
 -- How much memory a start makes, how large the disks of its drives are, and that what isn't refused fits.
+<<<<<<< 8bde38ab
+use Rattle.std.proofs.Common.{◌≡◌, ◌≤◌, ◌<◌, ℕ, ◌+◌, ◌-◌, ◌^◌, Bool, true, false, not, if◌then◌else◌, get_or, refl, subst, ◌∙◌, List, length, replicate, Option, Some, None, arith}
+=======
 use Rattle.std.proofs.Common.{◌≡◌, ◌≤◌, ◌<◌, ℕ, ◌+◌, ◌-◌, ◌^◌, Bool, true, false, not, if◌then◌else◌, get_or, refl, subst, ◌∙◌, List, ◌++◌, length, take, drop, replicate, Option, Some, None, arith, length-append, length-drop, length-take}
+>>>>>>> m
 use Rattle.std.specs.Prelude.{is_none, option_map}
 use Rattle.std.specs.FinMap.{get}
 use Rattle.std.specs.List.{All}
@@ -10,7 +14,7 @@ use Rattle.vm_types.specs.Saved.{Saved}
 use Rattle.refusals.specs.declared.refusal.Refusal.{Refusal}
 use Rattle.refusals.specs.declared.refusal.Refusal.TheVariants as refusal
 use Rattle.vm_config.specs.declared.config.Config.{Config}
-<<<<<<< f4895c43
+<<<<<<< 8bde38ab
 use Rattle.vm_config.specs.Devices.{Configured, devices_of, of_balloon, of_drive, of_interface, of_vsock}
 =======
 use Rattle.vm_config.specs.Devices.{Configured, devices_of, of_balloon, of_drive, of_interface}
@@ -20,6 +24,7 @@ use Rattle.api_rules.specs.declared.actions.InitrdFile.{InitrdFile}
 use Rattle.guest_memory.specs.Memory.{put_at}
 use Rattle.guest_memory.specs.Ram.{ram_start}
 use Rattle.guest_memory.specs.Boot.{Loads, boot_memory, bytes_of_mib, image_fits, image_offset, image_start, initrd_fits, initrd_start, laid, loads_fit, tree_size, tree_start, with_initrd}
+use Rattle.guest_memory.proofs.Keeping.{put_long}
 use Rattle.guest_devices.specs.Devices.{FitsNew}
 use Rattle.devtree.proofs.Sizes.{tree_fits}
 use Rattle.flat_machine.specs.Machine.{Machine}
@@ -27,17 +32,6 @@ use Rattle.flat_machine.specs.Requests.{disk_by, disk_of, device_from, devices_f
 use Rattle.flat_machine.proofs.Taken.{IsBounded}
 
 -- ---- memory
-
-length-put : (bytes piece : List ℕ) (offset : ℕ) → offset + length piece ≤ length bytes → length (put_at bytes offset piece) ≡ length bytes
-length-put bytes piece offset inside =
-    omega (
-      arith,
-      inside,
-      length-append (take offset bytes ++ piece) (drop (offset + length piece) bytes),
-      length-append (take offset bytes) piece,
-      length-take offset bytes,
-      length-drop (offset + length piece) bytes,
-    )
 
 image_room : (size image n : ℕ) → n ≡ size → image_offset + image + tree_size ≤ size → image_offset + image ≤ n
 image_room size image n whole room = omega (arith, whole, room)
@@ -56,7 +50,7 @@ length-initrd : (mib image : ℕ) (initrd : Option (List ℕ)) (bytes : List ℕ
 length-initrd mib image None bytes whole room low = refl
 length-initrd mib image (Some initrd) bytes whole room low =
     let above = leb-true (image_start + image) (initrd_start mib (length initrd)) low in
-    length-put bytes initrd (initrd_start mib (length initrd) - ram_start)
+    put_long bytes initrd (initrd_start mib (length initrd) - ram_start)
     (initrd_room mib image (length initrd) (length bytes) whole room above)
 
 length-laid : (mib : ℕ) (loads : Loads) (bytes : List ℕ) → length bytes ≡ bytes_of_mib mib
@@ -67,10 +61,10 @@ length-laid mib loads bytes whole fit small =
     let fits = and_parts (image_fits mib len) (initrd_fits mib len (option_map length loads.initrd)) fit in
     let room = leb-true (image_offset + len + tree_size) (bytes_of_mib mib) fits.0 in
     let imaged : List ℕ = put_at bytes image_offset loads.image in
-    let first = length-put bytes loads.image image_offset (image_room (bytes_of_mib mib) len (length bytes) whole room) ∙ whole in
+    let first = put_long bytes loads.image image_offset (image_room (bytes_of_mib mib) len (length bytes) whole room) ∙ whole in
     let filled : List ℕ = with_initrd mib loads.initrd imaged in
     let second = length-initrd mib len loads.initrd imaged first room fits.1 ∙ first in
-    length-put filled loads.tree (tree_start mib - ram_start) (tree_room mib len (length loads.tree) (length filled) second room small)
+    put_long filled loads.tree (tree_start mib - ram_start) (tree_room mib len (length loads.tree) (length filled) second room small)
     ∙ second
 
 length-booted : (mib : ℕ) (loads : Loads) → loads_fit mib (length loads.image) (option_map length loads.initrd) ≡ true
@@ -95,7 +89,7 @@ few_sectors (Some bytes) = omega arith
 device_fits : (saved : Saved) (d : Configured) → FitsNew (device_from saved d)
 device_fits saved (of_drive d) = few_sectors (get saved d.path_on_host)
 device_fits saved (of_interface i) = tt
-<<<<<<< f4895c43
+<<<<<<< 8bde38ab
 device_fits saved (of_vsock v) = tt
 =======
 >>>>>>> m

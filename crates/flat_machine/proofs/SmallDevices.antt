@@ -19,7 +19,7 @@ use Rattle.api_calls.specs.declared.interface.Interface.{Interface}
 use Rattle.api_calls.specs.declared.interface.InterfacePatch.{InterfacePatch}
 use Rattle.api_calls.specs.declared.limiter.BucketConfig.{BucketConfig}
 use Rattle.api_calls.specs.declared.limiter.Limiter.{Limiter}
-<<<<<<< f4895c43
+<<<<<<< 8bde38ab
 use Rattle.api_calls.specs.declared.vsock.Vsock.{Vsock}
 use Rattle.api_calls.specs.Drives.{is_root}
 use Rattle.api_calls.specs.Form.{holds, is_id_byte, is_path}
@@ -48,7 +48,7 @@ use Rattle.flat_guest.specs.Narrow as narrow
 use Rattle.flat_guest.proofs.Savable.{AreShown, get_all}
 use Rattle.flat_guest.specs.Savable.{IsSizedPort}
 use Rattle.flat_guest.proofs.Widths.{widths_told}
-<<<<<<< f4895c43
+<<<<<<< 8bde38ab
 use Rattle.snap_state.specs.Valid.{is_balloon, is_drive, is_interface, is_vsock}
 use Rattle.snap_state.proofs.Texts.{all_ascii, bucket_parts, drive_parts, drives_of, interface_parts, links_of}
 use Rattle.flat_machine.specs.Balloon.{interval_told, new_balloon, target_in, target_of}
@@ -188,7 +188,7 @@ interfaces_narrow saved (i ∷ interfaces) are =
     All-cons (λ (i : Interface). IsNarrowNew (device_from saved (of_interface i))) i interfaces (interface_narrow i both.0)
     (interfaces_narrow saved interfaces both.1)
 
-<<<<<<< f4895c43
+<<<<<<< 8bde38ab
 vsock_narrow : (v : Vsock) → is_vsock v ≡ true → IsNarrowNew (kinds.Vsock (new_vsock v))
 vsock_narrow v is =
     let named = and_parts _ (is_path v.uds_path) is in
@@ -225,7 +225,7 @@ devices_narrow config saved taken =
     let interfaces = interfaces_narrow saved config.interfaces (links_of config.interfaces taken.interfaces) in
     let balloon = balloons_narrow saved config.machine.mem_size_mib config.balloon taken.balloon in
     All-map IsNarrowNew (device_from saved) (devices_of config)
-<<<<<<< f4895c43
+<<<<<<< 8bde38ab
     (All-append P (map of_drive (in_order config.drives))
     (map of_interface config.interfaces ++ (vsock_devices config.vsock ++ balloon_devices config.balloon))
     (All-map P of_drive (in_order config.drives) drives)

@@ -23,7 +23,7 @@ use Rattle.script_text.specs.declared.item.Item.TheVariants as item
 use Rattle.script_text.specs.declared.output.Misfit.{Misfit}
 use Rattle.script_text.specs.declared.output.Misfit.TheVariants as misfit
 use Rattle.script_text.specs.Output.{memory_line, misfit_line, register_line}
-use Rattle.script_output.specs.Output.{console_line}
+use Rattle.responses.specs.Output.{console_line}
 use Rattle.flat_guest.specs.Guest.{Guest, is_actor}
 use Rattle.flat_guest.specs.Sound.{IsSound}
 use Rattle.flat_guest.proofs.Soundness.{actor_step, actor_steps, missing}
@@ -34,7 +34,11 @@ use Rattle.flat_machine.specs.Outcome.{AreAnswered, Outcome}
 use Rattle.flat_machine.specs.Outcome.Outcome.{Answered}
 use Rattle.guest_devices.specs.declared.device.Device.{Device}
 use Rattle.http_stream.specs.declared.request.Next.{Next}
+<<<<<<< 8bde38ab
+use Rattle.responses.specs.Responses.{Response}
+=======
 use Rattle.response_form.specs.Responses.{Response}
+>>>>>>> m
 use Rattle.flat_machine.specs.Machine.{Machine, console_of, drained, is_off, new_machine, running_by}
 use Rattle.flat_machine.specs.Items.{Answers, ItemStep, MemoryLine, Misfits, Moves, RegisterLine, Replies, RepliesLine, Shows, ShowsFrom, StepsLine, steps_text}
 use Rattle.flat_machine.specs.Replay.{IsEnd, IsReplay, closed, closing, judged_script}

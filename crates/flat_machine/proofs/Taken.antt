@@ -16,7 +16,7 @@ use Rattle.api_calls.specs.declared.call.BootSource.{BootSource}
 use Rattle.api_calls.specs.declared.call.Drive.{Drive}
 use Rattle.api_calls.specs.declared.call.MachineConfig.{MachineConfig}
 use Rattle.api_calls.specs.declared.interface.Interface.{Interface}
-<<<<<<< f4895c43
+<<<<<<< 8bde38ab
 use Rattle.api_calls.specs.declared.vsock.Vsock.{Vsock}
 =======
 >>>>>>> m
@@ -33,7 +33,7 @@ use Rattle.vm_config.specs.Devices.{count_in, device_count}
 use Rattle.api_rules.specs.declared.ids.Ids.{Ids}
 use Rattle.api_rules.specs.Table.{amount_of, change_of, decision, is_beyond, misplaced, own_refusal, patched, unless, when_allowed}
 use Rattle.devtree.specs.Machine.{args_by}
-<<<<<<< f4895c43
+<<<<<<< 8bde38ab
 use Rattle.snap_state.specs.Valid.{are_paths, has_room, is_balloon, is_machine, is_source, is_valid, is_vsock}
 =======
 use Rattle.snap_state.specs.Valid.{are_paths, has_room, is_balloon, is_machine, is_source, is_valid}
@@ -48,7 +48,7 @@ use Rattle.flat_machine.specs.Ready.{IsFitting, IsSourceBy, IsTaken}
 use Rattle.flat_machine.proofs.Allowed.{IsAllowed, not_refused, same_change}
 use Rattle.flat_machine.proofs.Drives.{length-patched, patch_told, put_told}
 use Rattle.flat_machine.proofs.Interfaces.{interface_put, limits_patched, many_patched}
-<<<<<<< f4895c43
+<<<<<<< 8bde38ab
 use Rattle.flat_machine.proofs.Mmds.{mmds_given, mmds_patched, mmds_put}
 =======
 >>>>>>> m
@@ -138,7 +138,7 @@ interval_patched mib patch (Some b) fits was =
     and_from _ _ parts.0 (lt-ltb patch.stats_polling_interval_s (2 ^ 16) fits)
 
 -- a patched balloon is as many devices
-<<<<<<< f4895c43
+<<<<<<< 8bde38ab
 amount_room : (drives : List Drive) (interfaces : List Interface) (vsock : Option Vsock) (patch : BalloonPatch) (balloon : Option Balloon)
     → has_room drives interfaces vsock (with_amount patch balloon) ≡ has_room drives interfaces vsock balloon
 amount_room drives interfaces vsock patch None = refl
@@ -208,7 +208,7 @@ module _ (p : Phase) (config : Config) (ids : Ids) (taken : IsTaken config) wher
       (and_from (is_path source.kernel_image_path) (are_paths source.initrd_path) asked.0 (paths_are source.initrd_path asked.1))
       (and_from (nat_le (length source.boot_args) 2048) (is_utf8 source.boot_args) (le-leb (length source.boot_args) 2048 asked.2) asked.3)
   call_fits (call.PutDrive drive) asked own =
-<<<<<<< f4895c43
+<<<<<<< 8bde38ab
       put_told drive config.drives config.interfaces config.vsock config.balloon taken.drives taken.room (and_from _ _ (and_from _ _ asked.0 asked.1) asked.2)
       (first_row _ _ _ _ own) (second_row _ _ _ _ own)
   call_fits (call.PatchDrive patch) asked own = (asked.1, asked.2)
@@ -238,7 +238,7 @@ module _ (p : Phase) (config : Config) (ids : Ids) (taken : IsTaken config) wher
         amount_fits (patched config.machine patch).mem_size_mib config.machine.mem_size_mib config.balloon
             (within _ _ (only_row _ _ own)) taken.balloon,
       )
-<<<<<<< f4895c43
+<<<<<<< 8bde38ab
   call_fits (call.PutVsock vsock) asked own = (
     cid_fits vsock asked.0 asked.1,
     vsock_room config.drives config.interfaces vsock config.vsock config.balloon taken.room (only_row _ _ own),
@@ -293,7 +293,7 @@ same_taken config taken = record {
   source = taken.source;
   drives = taken.drives;
   interfaces = taken.interfaces;
-<<<<<<< f4895c43
+<<<<<<< 8bde38ab
   vsock = taken.vsock;
   mmds = taken.mmds;
 =======
@@ -308,7 +308,7 @@ changed_taken config (change.BootSource source) taken fit = record {
   source = fit;
   drives = taken.drives;
   interfaces = taken.interfaces;
-<<<<<<< f4895c43
+<<<<<<< 8bde38ab
   vsock = taken.vsock;
   mmds = taken.mmds;
 =======
@@ -321,7 +321,7 @@ changed_taken config (change.PutDrive drive) taken fit = record {
   source = taken.source;
   drives = fit.0;
   interfaces = taken.interfaces;
-<<<<<<< f4895c43
+<<<<<<< 8bde38ab
   vsock = taken.vsock;
   mmds = taken.mmds;
 =======
@@ -334,7 +334,7 @@ changed_taken config (change.PatchDrive patch) taken fit = record {
   source = taken.source;
   drives = patch_told patch config.drives taken.drives fit.0 fit.1;
   interfaces = taken.interfaces;
-<<<<<<< f4895c43
+<<<<<<< 8bde38ab
   vsock = taken.vsock;
   mmds = taken.mmds;
 =======
@@ -349,7 +349,7 @@ changed_taken config (change.PutInterface interface) taken fit = record {
   source = taken.source;
   drives = taken.drives;
   interfaces = fit.0;
-<<<<<<< f4895c43
+<<<<<<< 8bde38ab
   vsock = taken.vsock;
   mmds = fit.2;
 =======
@@ -362,7 +362,7 @@ changed_taken config (change.PatchInterface patch) taken fit = record {
   source = taken.source;
   drives = taken.drives;
   interfaces = limits_patched patch config.interfaces taken.interfaces fit.0 fit.1;
-<<<<<<< f4895c43
+<<<<<<< 8bde38ab
   vsock = taken.vsock;
   mmds = mmds_patched patch config.interfaces config.mmds taken.mmds;
 =======
@@ -378,7 +378,7 @@ changed_taken config (change.MachineConfig machine) taken fit = record {
   source = taken.source;
   drives = taken.drives;
   interfaces = taken.interfaces;
-<<<<<<< f4895c43
+<<<<<<< 8bde38ab
   vsock = taken.vsock;
   mmds = taken.mmds;
 =======
@@ -387,7 +387,7 @@ changed_taken config (change.MachineConfig machine) taken fit = record {
   balloon = fit.1;
   room = taken.room;
 }
-<<<<<<< f4895c43
+<<<<<<< 8bde38ab
 changed_taken config (change.PutVsock vsock) taken fit = record {
   source = taken.source;
   drives = taken.drives;
@@ -404,7 +404,7 @@ changed_taken config (change.PutBalloon balloon) taken fit = record {
   source = taken.source;
   drives = taken.drives;
   interfaces = taken.interfaces;
-<<<<<<< f4895c43
+<<<<<<< 8bde38ab
   vsock = taken.vsock;
   mmds = taken.mmds;
 =======
@@ -417,7 +417,7 @@ changed_taken config (change.PatchBalloon patch) taken fit = record {
   source = taken.source;
   drives = taken.drives;
   interfaces = taken.interfaces;
-<<<<<<< f4895c43
+<<<<<<< 8bde38ab
   vsock = taken.vsock;
   mmds = taken.mmds;
   machine = taken.machine;
@@ -433,7 +433,7 @@ changed_taken config (change.PatchStatistics patch) taken fit = record {
   source = taken.source;
   drives = taken.drives;
   interfaces = taken.interfaces;
-<<<<<<< f4895c43
+<<<<<<< 8bde38ab
   vsock = taken.vsock;
   mmds = taken.mmds;
   machine = taken.machine;
@@ -474,7 +474,7 @@ configured_taken config is = record {
   source = source_taken config.boot_source is.source;
   drives = is.drives;
   interfaces = is.interfaces;
-<<<<<<< f4895c43
+<<<<<<< 8bde38ab
   vsock = is.vsock;
   mmds = is.mmds;
 =======
@@ -491,7 +491,7 @@ taken_configured config source there taken = record {
       (subst (λ (o : Option BootSource). IsSourceBy o) there taken.source);
   drives = taken.drives;
   interfaces = taken.interfaces;
-<<<<<<< f4895c43
+<<<<<<< 8bde38ab
   vsock = taken.vsock;
   mmds = taken.mmds;
 =======
@@ -504,7 +504,7 @@ taken_configured config source there taken = record {
 -- ---- at first, and behind a load
 
 pub default_taken : IsTaken default_config
-<<<<<<< f4895c43
+<<<<<<< 8bde38ab
 default_taken =
     record { source = tt; drives = refl; interfaces = refl; vsock = refl; mmds = refl; machine = refl; balloon = refl; room = refl }
 =======

@@ -22,7 +22,7 @@ use Rattle.flat_machine.specs.Outcome.{Outcome}
 use Rattle.flat_machine.specs.Machine.{Machine, new_machine, running}
 use Rattle.flat_machine.specs.Items.{ItemStep, MemoryLine, PartStep, RegisterLine, RepliesLine, StepsLine, Talks, bytes_of}
 use Rattle.flat_machine.specs.Requests.{RequestStep}
-use Rattle.response_form.specs.Responses.{Response}
+use Rattle.responses.specs.Responses.{Response}
 use Rattle.flat_machine.specs.Run.{Act, Run}
 use Rattle.flat_machine.specs.Stops.{IsStopped, StopsBy, StopsInside}
 use Rattle.flat_machine.proofs.Between.{by_either}

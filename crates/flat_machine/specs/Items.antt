@@ -17,9 +17,9 @@ use Rattle.script_text.specs.declared.item.Item.TheVariants as item
 use Rattle.script_text.specs.declared.output.Misfit.{Misfit}
 use Rattle.script_text.specs.declared.output.Misfit.TheVariants as misfit
 use Rattle.script_text.specs.Output.{misfit_line, register_line, memory_line, waits_line}
-use Rattle.script_output.specs.Output.{console_line}
-use Rattle.response_form.specs.declared.form.ResponseForm.TheVariants.{Line}
-use Rattle.response_form.specs.Responses.{Response, all_written}
+use Rattle.responses.specs.Output.{console_line}
+use Rattle.responses.specs.declared.form.ResponseForm.TheVariants.{Line}
+use Rattle.responses.specs.Responses.{Response, all_written}
 use Rattle.guest_memory.specs.Memory.{read_from}
 use Rattle.guest_memory.specs.Ram.{is_ram}
 use Rattle.rv_supervisor.specs.declared.regs.Regs.{Regs}

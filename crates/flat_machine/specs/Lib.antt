@@ -2,7 +2,7 @@ pub mod Balloon
 pub mod Between
 pub mod Given
 pub mod Interfaces
-<<<<<<< f4895c43
+<<<<<<< 8bde38ab
 pub mod Vsock
 =======
 >>>>>>> m

@@ -6,7 +6,7 @@ use Rattle.api_calls.specs.declared.balloon.Balloon.{Balloon}
 use Rattle.api_calls.specs.declared.call.BootSource.{BootSource}
 use Rattle.api_calls.specs.declared.call.Drive.{Drive}
 use Rattle.api_calls.specs.declared.interface.Interface.{Interface}
-<<<<<<< f4895c43
+<<<<<<< 8bde38ab
 use Rattle.api_calls.specs.declared.mmds.MmdsConfig.{MmdsConfig}
 use Rattle.api_calls.specs.declared.vsock.Vsock.{Vsock}
 =======
@@ -22,7 +22,7 @@ use Rattle.guest_memory.specs.Ram.{page_size}
 use Rattle.flat_guest.specs.Changes.{reset_guest}
 use Rattle.flat_guest.specs.Guest.{Guest}
 use Rattle.flat_guest.specs.Sound.{IsSound}
-<<<<<<< f4895c43
+<<<<<<< 8bde38ab
 use Rattle.snap_state.specs.Valid.{are_drives, are_interfaces, has_room, is_balloon, is_machine, is_mmds, is_source, is_valid, is_vsock}
 =======
 use Rattle.snap_state.specs.Valid.{are_drives, are_interfaces, has_room, is_balloon, is_machine, is_source, is_valid}
@@ -42,7 +42,7 @@ IsSourceBy None = Unit {0}
 IsSourceBy (Some source) = is_source (source_of (Some source)) ≡ true
 
 -- what is configured is as the API takes it: the boot source, if there is one; the drives, which are told apart, and of
-<<<<<<< f4895c43
+<<<<<<< 8bde38ab
 -- which one at most is the root drive; the interfaces, which are told apart; the vsock device, if there is one; where metadata are given,
 -- at interfaces that are there; how many harts and how much memory there is; the balloon, if there is one, which takes no more than that;
 -- and no more devices than there may be
@@ -54,7 +54,7 @@ pub record IsTaken (config : Config) : Type 0 where
   pub source : IsSourceBy config.boot_source
   pub drives : are_drives config.drives ≡ true
   pub interfaces : are_interfaces config.interfaces ≡ true
-<<<<<<< f4895c43
+<<<<<<< 8bde38ab
   pub vsock : holds is_vsock config.vsock ≡ true
   pub mmds : holds (is_mmds config.interfaces) config.mmds ≡ true
   pub machine : is_machine config.machine ≡ true
@@ -86,7 +86,7 @@ AreLinked drives interfaces balloon = (are_interfaces interfaces ≡ true) × (h
 -- a change leaves it so
 abbrev pub IsFitting : Config → Change → Type 0
 IsFitting config (change.BootSource source) = is_source (source_of (Some source)) ≡ true
-<<<<<<< f4895c43
+<<<<<<< 8bde38ab
 IsFitting config (change.PutDrive drive) = AreFitting (put_drive config.drives drive) config.interfaces config.vsock config.balloon
 IsFitting config (change.PatchDrive patch) =
     (holds is_path patch.path_on_host ≡ true) × (holds is_limiter patch.rate_limiter ≡ true)
@@ -103,7 +103,7 @@ IsFitting config (change.PatchInterface patch) =
     (holds is_limiter patch.rx_rate_limiter ≡ true) × (holds is_limiter patch.tx_rate_limiter ≡ true)
 IsFitting config (change.MachineConfig machine) =
     (is_machine machine ≡ true) × (holds (is_balloon machine.mem_size_mib) config.balloon ≡ true)
-<<<<<<< f4895c43
+<<<<<<< 8bde38ab
 IsFitting config (change.PutVsock vsock) =
     (is_vsock vsock ≡ true) × (has_room config.drives config.interfaces (Some vsock) config.balloon ≡ true)
 IsFitting config (change.PutBalloon balloon) =

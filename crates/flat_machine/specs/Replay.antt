@@ -4,7 +4,7 @@ use Rattle.script_text.specs.declared.item.Item.{Item}
 use Rattle.vm_types.specs.declared.exit.Exit.{Exit}
 use Rattle.vm_types.specs.declared.exit.Exit.TheVariants.{Done, Script}
 use Rattle.script_text.specs.Lines.{judged}
-use Rattle.script_output.specs.Output.{console_line, last_line, off_line}
+use Rattle.responses.specs.Output.{console_line, last_line, off_line}
 use Rattle.flat_machine.specs.Machine.{Machine, console_of, drained, is_off}
 use Rattle.flat_machine.specs.Run.{Act, OnBefore, Run, lines_done}
 

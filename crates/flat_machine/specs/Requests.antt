@@ -27,7 +27,7 @@ use Rattle.api_calls.specs.declared.call.SnapshotLoad.{SnapshotLoad}
 use Rattle.api_calls.specs.declared.call.VmState.TheVariants.{Paused, Resumed}
 use Rattle.api_calls.specs.declared.interface.InterfacePatch.{InterfacePatch}
 use Rattle.api_calls.specs.declared.limiter.Limiter.{Limiter}
-<<<<<<< f4895c43
+<<<<<<< 8bde38ab
 use Rattle.api_calls.specs.Call.{call_of}
 =======
 use Rattle.api_calls.specs.Call.{call_of, ◌>>=◌}
@@ -37,7 +37,7 @@ use Rattle.vm_config.specs.declared.config.Config.{Config}
 use Rattle.vm_config.specs.declared.change.Change.{Change}
 use Rattle.vm_config.specs.declared.change.Change.TheVariants as change
 use Rattle.vm_config.specs.Changes.{changed, with_amount, with_interval}
-<<<<<<< f4895c43
+<<<<<<< 8bde38ab
 use Rattle.vm_config.specs.Devices.{Configured, balloon_device, devices_of, interface_device, of_balloon, of_drive, of_interface, of_vsock}
 =======
 use Rattle.vm_config.specs.Devices.{Configured, balloon_device, devices_of, interface_device, of_balloon, of_drive, of_interface}
@@ -53,7 +53,11 @@ use Rattle.api_rules.specs.Table.{boot_refusal, decision, unless}
 use Rattle.guest_memory.specs.Boot.{Loads, initrd_start}
 use Rattle.devtree.specs.declared.machine.InitrdPlace.{InitrdPlace}
 use Rattle.devtree.specs.Machine.{tree_bytes}
+<<<<<<< 8bde38ab
+use Rattle.responses.specs.Responses.{Response}
+=======
 use Rattle.response_form.specs.Responses.{Response}
+>>>>>>> m
 use Rattle.port_table.specs.declared.state.PortState.{PortState}
 use Rattle.guest_devices.specs.declared.change.DeviceChange.{DeviceChange}
 use Rattle.guest_devices.specs.declared.device.Device.{Device}
@@ -73,7 +77,7 @@ use Rattle.flat_snapshot.specs.Files.{calls_of, head_of, saved_pages, state_file
 use Rattle.flat_snapshot.specs.Found.{Snapshot, found}
 use Rattle.flat_machine.specs.Balloon.{TellsBalloon, interval_told, new_balloon, target_in}
 use Rattle.flat_machine.specs.Interfaces.{new_net}
-<<<<<<< f4895c43
+<<<<<<< 8bde38ab
 use Rattle.flat_machine.specs.Vsock.{new_vsock}
 =======
 >>>>>>> m
@@ -218,7 +222,7 @@ drive_from saved d = kinds.Block (record {
 abbrev pub device_from : Saved → Configured → NewDevice
 device_from saved (of_drive d) = drive_from saved d
 device_from saved (of_interface i) = kinds.Net (new_net i)
-<<<<<<< f4895c43
+<<<<<<< 8bde38ab
 device_from saved (of_vsock v) = kinds.Vsock (new_vsock v)
 =======
 >>>>>>> m
@@ -361,7 +365,7 @@ Leaves m (change.PutDrive drive) n = n ≡ configured m (change.PutDrive drive)
 Leaves m (change.PatchDrive patch) n = n ≡ configured (patched_drive m patch) (change.PatchDrive patch)
 Leaves m (change.PutInterface interface) n = n ≡ configured m (change.PutInterface interface)
 Leaves m (change.PatchInterface patch) n = n ≡ configured (patched_interface m patch) (change.PatchInterface patch)
-<<<<<<< f4895c43
+<<<<<<< 8bde38ab
 Leaves m (change.PutVsock vsock) n = n ≡ configured m (change.PutVsock vsock)
 Leaves m (change.PutBalloon balloon) n = n ≡ configured m (change.PutBalloon balloon)
 Leaves m (change.PatchBalloon patch) n = n ≡ configured (patched_balloon m patch) (change.PatchBalloon patch)

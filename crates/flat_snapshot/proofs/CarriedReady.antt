@@ -205,7 +205,7 @@ module _ (copy : StateCopy) (bytes : List ℕ) (tracking : Bool) (valid : IsTrue
           source = rules.source;
           drives = rules.drives;
           interfaces = rules.interfaces;
-<<<<<<< f4895c43
+<<<<<<< 8bde38ab
           vsock = rules.vsock;
           mmds = rules.mmds;
 =======

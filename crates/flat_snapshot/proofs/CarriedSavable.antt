@@ -10,7 +10,7 @@ use Rattle.vm_types.specs.Fits.{fits}
 use Rattle.le_fields.specs.Fields.{IsByte, bytes_of}
 use Rattle.le_fields.proofs.Values.{all_bytes}
 use Rattle.file_format.specs.Kinds.{byte, number16, number64}
-<<<<<<< f4895c43
+<<<<<<< 8bde38ab
 use Rattle.file_format.specs.declared.version.Version.{Version}
 =======
 use Rattle.file_format.specs.Versions.{Version}

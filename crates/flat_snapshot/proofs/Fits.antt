@@ -32,7 +32,7 @@ use Rattle.snap_harts.specs.Copy.{saved_hart}
 use Rattle.snap_harts.specs.Harts.{hart}
 use Rattle.snap_harts.proofs.Fits.{hart_fits}
 use Rattle.snap_state.specs.declared.copy.StateCopy.{StateCopy}
-<<<<<<< f4895c43
+<<<<<<< 8bde38ab
 use Rattle.snap_state.specs.Copies.{devices, reservation, section, sections_in, state_copy}
 =======
 use Rattle.snap_state.specs.Copies.{devices, reservation, state_copy}
@@ -119,7 +119,7 @@ module _ (config : Config) (g : Guest) (copy : StateCopy) (own : Identity) (of :
 
   few_links : length config.interfaces ≤ most_ports
   few_links =
-<<<<<<< f4895c43
+<<<<<<< 8bde38ab
       let room = leb-true (count_in config.drives config.interfaces config.vsock config.balloon) most_ports rules.room in
 =======
       let room = leb-true (count_in config.drives config.interfaces config.balloon) most_ports rules.room in
@@ -142,7 +142,7 @@ module _ (config : Config) (g : Guest) (copy : StateCopy) (own : Identity) (of :
       savable.each i start h there (subst (λ (n : ℕ). LeadsTo start (g.steps (HartId n)) h) here leads)
 
   made_fits : (state_copy current_version).Fits made
-<<<<<<< f4895c43
+<<<<<<< 8bde38ab
   unfolding state_copy devices sections_in
 =======
   unfolding state_copy devices
@@ -156,7 +156,7 @@ module _ (config : Config) (g : Guest) (copy : StateCopy) (own : Identity) (of :
       let many = eqb-true (length made.harts) config.machine.vcpu_count rules.many in
       let held = slots in (
         (
-<<<<<<< f4895c43
+<<<<<<< 8bde38ab
           configuration_fits (configuration_of config) rules.source rules.drives rules.interfaces few_links rules.vsock rules.mmds machine rules.balloon,
 =======
           configuration_fits (configuration_of config) rules.source rules.drives rules.interfaces few_links machine rules.balloon,
@@ -177,7 +177,7 @@ module _ (config : Config) (g : Guest) (copy : StateCopy) (own : Identity) (of :
                 (
                   fits_list reservation made.reservations (omega (arith, held))
                       (reservations_fit made.pages config.machine.vcpu_count made.reservations (omega (arith, few)) harts rules.reservations),
-<<<<<<< f4895c43
+<<<<<<< 8bde38ab
                   fits_list section [] (omega arith) (All-nil section.Fits),
 =======
                   refl,

@@ -1,4 +1,4 @@
-<<<<<<< f4895c43
+<<<<<<< 8bde38ab
 -- A ready guest of which each number has its width has a copy behind a Reset that fits a state file.
 use Rattle.std.proofs.Common.{◌≡◌, ◌≤◌, ◌<◌, ◌^◌, ℕ, suc, ◌+◌, ◌*◌, ◌/◌, true, refl, sym, subst, List, [], ◌∷◌, length, map, Some, slice_get, arith}
 use Rattle.std.proofs.lemmas.List.{length-map}
@@ -17,7 +17,7 @@ use Rattle.file_format.specs.Versions.{current_version}
 use Rattle.guest_memory.specs.Ram.{page_size}
 use Rattle.hart_trace.specs.Traces.{IsPrefix}
 use Rattle.guest_devices.specs.declared.device.Device.{Device}
-<<<<<<< f4895c43
+<<<<<<< 8bde38ab
 use Rattle.guest_devices.specs.Devices.{DeviceLeads, FlatDevice, device_reset}
 use Rattle.guest_devices.specs.Kept.{device_left, is_kept, is_saved}
 use Rattle.guest_devices.specs.Narrow.{IsNarrowDevice}
@@ -48,7 +48,7 @@ use Rattle.flat_snapshot.proofs.Copied.{some_copy, some_harts}
 use Rattle.flat_snapshot.proofs.Fits.{contents_fit}
 use Rattle.flat_snapshot.proofs.Ready.{many_kept, valid_copy}
 
-<<<<<<< f4895c43
+<<<<<<< 8bde38ab
 fit_at : (port pages : ℕ) (d : FlatDevice) → pages ≤ 2 ^ 18 → port < 2 ^ 8 → IsSoundDevice port pages d
     → IsNarrowDevice port pages (device_reset d)
     → (it : Device) × DeviceLeads (device_reset d) (device_left it) × (is_kept it ≡ true) × device.Fits it
@@ -102,7 +102,7 @@ some_fits pages port (d ∷ devices) few low each =
     subst (λ (n : ℕ). IsNarrowDevice n pages next) on (each (suc i) next there)) in
     (it.0 ∷ rest.0, (it.1, it.2, rest.1), All-cons device.Fits it.0 rest.0 it.3 rest.2)
 
-<<<<<<< f4895c43
+<<<<<<< 8bde38ab
 -- a guest that was there, and what it is behind a Reset
 module _ (config : Config) (own : Identity) (had : Guest) (was : IsSound had) (sound : IsSound (reset_guest had))
     (ready : IsReady config (reset_guest had)) (small : config.machine.mem_size_mib ≤ 1024)
@@ -121,7 +121,7 @@ module _ (config : Config) (own : Identity) (g : Guest) (sound : IsSound g) (rea
   pages_are : length g.memory.bytes / page_size ≡ wanted
   pages_are = let whole = widths.savable.memory.many_bytes in omega (arith, whole)
 
-<<<<<<< f4895c43
+<<<<<<< 8bde38ab
   few_devices : length had.devices ≤ 2 ^ 7
 =======
   few_devices : length g.devices ≤ 2 ^ 7
@@ -132,7 +132,7 @@ module _ (config : Config) (own : Identity) (g : Guest) (sound : IsSound g) (rea
       let at = attached one.0 (rules_of one.0 valid) in
       let count = at.devices in
       let drives = at.few in
-<<<<<<< f4895c43
+<<<<<<< 8bde38ab
       let kept : length one.0.devices ≡ length (map device_reset had.devices) = many_kept one.0.devices g.devices one.1.2 in
       let many = length-map had.devices device_reset in
       omega (arith, count, drives, kept, many)
@@ -149,7 +149,7 @@ module _ (config : Config) (own : Identity) (g : Guest) (sound : IsSound g) (rea
       let same : i ≡ 0 + i = omega arith in
       subst (λ (n : ℕ). IsPrefix start (g.steps (HartId n))) same (sound.harts_on i start is)) in
       let devices = few_devices in
-<<<<<<< f4895c43
+<<<<<<< 8bde38ab
       let kept = some_fits wanted 0 had.devices (omega (arith, small)) (omega (arith, devices))
       (λ i d there.
       let here : i ≡ 0 + i = omega arith in

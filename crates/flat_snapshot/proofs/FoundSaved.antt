@@ -10,7 +10,7 @@ use Rattle.api_calls.specs.declared.call.SnapshotFiles.{SnapshotFiles}
 use Rattle.le_fields.specs.Fields.{IsByte}
 use Rattle.file_format.specs.Format.{IsBytes}
 use Rattle.file_format.specs.Starts.{is_closed, is_other}
-<<<<<<< f4895c43
+<<<<<<< 8bde38ab
 use Rattle.file_format.specs.Versions.{version_of}
 use Rattle.file_format.specs.declared.version.Version.{Version}
 =======

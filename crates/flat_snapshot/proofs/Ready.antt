@@ -284,7 +284,7 @@ module _ (config : Config) (g : Guest) (sound : IsSound g) (is : IsReady config 
     source = is.configured.source;
     drives = is.configured.drives;
     interfaces = is.configured.interfaces;
-<<<<<<< f4895c43
+<<<<<<< 8bde38ab
     vsock = is.configured.vsock;
     mmds = is.configured.mmds;
 =======

@@ -10,15 +10,15 @@ use Rattle.vm_types.specs.declared.reply.Reply.{Reply}
 use Rattle.vm_types.specs.declared.reply.Reply.TheVariants.{Done, Bytes, Word, AccessFault}
 use Rattle.vm_types.specs.declared.entry.Entry.{Entry}
 use Rattle.vm_types.specs.Ids.{same_place}
-use Rattle.amo_table.specs.Amo.{amo_value}
+use Rattle.guest_memory.specs.Amo.{amo_value}
 use Rattle.guest_memory.specs.Memory.{Memory, put_at, touch, read_from, word_at, written, reserving}
 use Rattle.guest_memory.specs.Ram.{ram_start, is_ram}
 use Rattle.guest_memory.specs.Reserved.{first_slot, granule_of, held_by, is_granule}
 use Rattle.guest_memory.specs.Route.{access_place, page_of}
 use Rattle.guest_memory.specs.Words.{width_of, word_bytes}
+use Rattle.guest_memory.proofs.Keeping.{word_long}
 use Rattle.guest_pages.specs.Marks.{is_written, writes_page}
 use Rattle.guest_pages.proofs.Here.{IsHere, here}
-use Rattle.guest_pages.proofs.Staying.{length-word_bytes}
 use Rattle.snap_diff.specs.Copies.{page_at}
 use Rattle.snap_diff.proofs.Laying.{cell_of_page, length-put, put_before, put_behind}
 use Rattle.flat_guest.specs.Given.{Event, Given}
@@ -84,7 +84,7 @@ module _ (m : Memory) (actor : ActorId) (k i : ℕ) where
   word_here : (at value : ℕ) (wide : Bool) → page_of (length m.bytes) at (width_of wide) ≡ PlaceId.Page k
       → IsHere (length m.bytes) k at (length (word_bytes wide value))
   word_here at value wide is =
-      subst (λ (n : ℕ). IsHere (length m.bytes) k at n) (sym (length-word_bytes wide value)) (here (length m.bytes) at (width_of wide) k is)
+      subst (λ (n : ℕ). IsHere (length m.bytes) k at n) (sym (word_long wide value)) (here (length m.bytes) at (width_of wide) k is)
 
   act_stays : (op : Op) → access_place (length m.bytes) op ≡ PlaceId.Page k → Stays m.bytes i (k == i) op (touch m actor op)
   act_stays (Read at len) is = by_test (nat_le len 64 && is_ram (length m.bytes) at len)

@@ -65,7 +65,7 @@ carried_config tracking c = record {
   });
   drives = c.drives;
   interfaces = c.interfaces;
-<<<<<<< f4895c43
+<<<<<<< 8bde38ab
   vsock = c.vsock;
   machine = record c.machine { track_dirty_pages = tracking };
   balloon = c.balloon;

@@ -56,7 +56,7 @@ configuration_of config = record {
   boot_source = source_of config.boot_source;
   drives = config.drives;
   interfaces = config.interfaces;
-<<<<<<< f4895c43
+<<<<<<< 8bde38ab
   vsock = config.vsock;
   machine = config.machine;
   balloon = config.balloon;

@@ -5,7 +5,7 @@ use Rattle.vm_config.specs.declared.config.Config.{Config}
 use Rattle.vm_config.specs.Devices.{device_count}
 use Rattle.flat_guest.specs.Guest.{Guest}
 use Rattle.flat_guest.specs.Shaped.{IsShaped}
-<<<<<<< f4895c43
+<<<<<<< 8bde38ab
 use Rattle.snap_state.specs.Valid.{are_drives, are_interfaces, has_room, is_balloon, is_machine, is_mmds, is_source, is_vsock, kinds_of}
 =======
 use Rattle.snap_state.specs.Valid.{are_drives, are_interfaces, has_room, is_balloon, is_machine, is_source, kinds_of}
@@ -17,7 +17,7 @@ pub record IsConfigured (config : Config) : Type 0 where
   pub source : is_source (source_of config.boot_source) ≡ true
   pub drives : are_drives config.drives ≡ true
   pub interfaces : are_interfaces config.interfaces ≡ true
-<<<<<<< f4895c43
+<<<<<<< 8bde38ab
   pub vsock : holds is_vsock config.vsock ≡ true
   pub mmds : holds (is_mmds config.interfaces) config.mmds ≡ true
   pub machine : is_machine config.machine ≡ true

@@ -7,7 +7,7 @@ use Rattle.flat_guest.specs.Given.{Given}
 use Rattle.flat_guest.specs.Given.Given.{Host, Nothing}
 use Rattle.script_text.specs.declared.item.Item.{Item}
 use Rattle.script_text.specs.declared.item.Item.TheVariants as item
-use Rattle.script_output.specs.Output.{console_line, off_line}
+use Rattle.responses.specs.Output.{console_line, off_line}
 use Rattle.flat_guest.specs.Guest.{Guest}
 use Rattle.flat_guest.specs.Steps.{guest_after}
 use Rattle.flat_machine.specs.Machine.{Machine, console_by, console_of, drained, drained_guest, is_off, off_by, running}
@@ -53,7 +53,7 @@ pub drain_off : (o : Option Guest) → off_by (drained_guest o) ≡ off_by o
 drain_off None = refl
 drain_off (Some g) = refl
 
-drain_empty : (o : Option Guest) → console_by (drained_guest o) ≡ []
+pub drain_empty : (o : Option Guest) → console_by (drained_guest o) ≡ []
 drain_empty None = refl
 drain_empty (Some g) = refl
 

@@ -1,4 +1,4 @@
-mod Behind
+pub mod Behind
 mod Boards
 pub mod Lines
 mod Off

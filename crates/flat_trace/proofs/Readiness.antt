@@ -6,7 +6,7 @@ use Rattle.flat_guest.specs.Given.{Given}
 use Rattle.flat_guest.specs.Given.Given.{Host, Nothing}
 use Rattle.script_text.specs.declared.item.Item.{Item}
 use Rattle.script_text.specs.declared.item.Item.TheVariants as item
-use Rattle.script_output.specs.Output.{console_line}
+use Rattle.responses.specs.Output.{console_line}
 use Rattle.flat_guest.specs.Guest.{Guest}
 use Rattle.flat_machine.specs.Items.{response_lines}
 use Rattle.flat_machine.specs.Machine.{Machine, console_of, is_off, running_by}

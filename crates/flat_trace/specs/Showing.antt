@@ -6,9 +6,9 @@ use Rattle.flat_guest.specs.Given.{Given}
 use Rattle.flat_guest.specs.Given.Given.{Host, Nothing}
 use Rattle.script_text.specs.declared.item.Item.{Item}
 use Rattle.script_text.specs.declared.item.Item.TheVariants as item
-use Rattle.script_output.specs.Output.{console_line}
-use Rattle.response_form.specs.declared.form.ResponseForm.TheVariants.{Http}
-use Rattle.response_form.specs.Responses.{Response, all_written}
+use Rattle.responses.specs.Output.{console_line}
+use Rattle.responses.specs.declared.form.ResponseForm.TheVariants.{Http}
+use Rattle.responses.specs.Responses.{Response, all_written}
 use Rattle.flat_guest.specs.Guest.{Guest}
 use Rattle.flat_machine.specs.Given.{reply_given}
 use Rattle.flat_machine.specs.Items.{Answers, ItemStep, Talks, response_lines}

@@ -5,7 +5,7 @@ pub mod OfKind
 pub mod Owed
 pub mod Placed
 pub mod Ports
-<<<<<<< f4895c43
+<<<<<<< 8bde38ab
 pub mod Saved
 =======
 >>>>>>> m

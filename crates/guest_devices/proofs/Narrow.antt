@@ -25,7 +25,7 @@ use Rattle.rate_gate.proofs.SmallLimits.{others_small}
 use Rattle.net_device.specs.declared.kind.NetChange.TheVariants.{Receives, Transmits}
 use Rattle.net_device.proofs.Narrow as net
 use Rattle.net_device.proofs.Resuming as net_resuming
-<<<<<<< f4895c43
+<<<<<<< 8bde38ab
 use Rattle.vsock_device.proofs.Narrow as vsock
 use Rattle.vsock_device.proofs.Resuming as vsock_resuming
 =======
@@ -40,7 +40,7 @@ use Rattle.guest_devices.specs.declared.device.Device.TheVariants as device
 use Rattle.guest_devices.specs.declared.new_device.NewDevice.{NewDevice}
 use Rattle.guest_devices.specs.Devices.{DataOf, DeviceLeads, DeviceLeft, DeviceWants, FlatDevice, device_at, device_changed, device_did}
 use Rattle.guest_devices.specs.Devices.{device_next, device_reset, device_rules, device_told, device_wants, left_of, left_reset, left_told, new_device, new_left}
-<<<<<<< f4895c43
+<<<<<<< 8bde38ab
 use Rattle.guest_devices.specs.Kept.{IsBounded, IsBoundedDevice, KeptDevice, device_left, device_pages, device_port, is_device_state, is_state_kept, left_by}
 use Rattle.guest_devices.specs.Kinds.{Balloon, Block, ChangeOf, FitsChange, IsSizedOf, IsSmallChange, Kind, Net, OwnOf, Vsock, calls_of, change_for, changing_of, is_sized_work_of}
 =======
@@ -100,7 +100,7 @@ net_laws = record {
   state = λ p r g is. is;
 }
 
-<<<<<<< f4895c43
+<<<<<<< 8bde38ab
 vsock_changed : (change : DeviceChange) → FitsChange change → IsSmallChange change → LeavesSized Vsock (change_for change Vsock)
 vsock_changed (changes.Block c) fits small = tt
 vsock_changed (changes.Net c) fits small = tt
@@ -143,7 +143,7 @@ balloon_laws = record {
 narrow_laws : (k : Kind) → NarrowLaws k
 narrow_laws Block = block_laws
 narrow_laws Net = net_laws
-<<<<<<< f4895c43
+<<<<<<< 8bde38ab
 narrow_laws Vsock = vsock_laws
 =======
 >>>>>>> m
@@ -292,7 +292,7 @@ narrow_at (device.Net n) is bounded narrow = (
     left = refl;
   },
 )
-<<<<<<< f4895c43
+<<<<<<< 8bde38ab
 narrow_at (device.Vsock v) is bounded narrow = (
   device_left (device.Vsock v),
   at_start (device_left (device.Vsock v)),

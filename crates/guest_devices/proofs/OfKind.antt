@@ -7,7 +7,7 @@ use Rattle.device_trace.specs.States.{changed_at, next, wants}
 use Rattle.guest_devices.specs.declared.change.DeviceChange.{DeviceChange}
 use Rattle.guest_devices.specs.declared.device.Device.{Device}
 use Rattle.guest_devices.specs.declared.new_device.NewDevice.{NewDevice}
-<<<<<<< f4895c43
+<<<<<<< 8bde38ab
 use Rattle.guest_devices.specs.Devices.{DataOf, DeviceLeft, FitsNew, device_changed, device_next, device_rules, device_wants, left_of, left_reset, left_told}
 use Rattle.guest_devices.specs.Kept.{device_left, is_kept}
 use Rattle.guest_devices.specs.Kinds.{ChangeOf, Kind, change_for, reset_for}
@@ -34,7 +34,7 @@ module _ (k : Kind) where
       after ∙ ap (left_of k) is ∙ ap (left_told (left_of k t)) (sym told)
       ∙ ap (λ (x : DeviceLeft). device_changed change x) (sym before)
 
-<<<<<<< f4895c43
+<<<<<<< 8bde38ab
   -- the Reset, of a kind that is told of it
   pub reset_is : (t u : Script (DataOf k)) (c : ChangeOf k) → u ≡ changed_at (device_rules k) c t → reset_for k ≡ Some c → (d e : Device)
       → device_left d ≡ left_of k t → device_left e ≡ left_of k u → device_left e ≡ left_reset (device_left d)

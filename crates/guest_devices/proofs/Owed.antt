@@ -1,6 +1,6 @@
 -- What is owed of each kind.
-<<<<<<< f4895c43
-use Rattle.std.proofs.Common.{◌≡◌, ◌^◌, None, true, refl}
+<<<<<<< 8bde38ab
+use Rattle.std.proofs.Common.{◌≡◌, ◌^◌, None, refl}
 =======
 use Rattle.std.proofs.Common.{◌≡◌, ◌^◌, true, refl}
 >>>>>>> m
@@ -25,7 +25,7 @@ use Rattle.balloon_device.specs.Balloon as balloons
 use Rattle.balloon_device.specs.Work.{Kept}
 use Rattle.balloon_device.proofs.Balloon as balloon
 use Rattle.balloon_device.proofs.Resuming as balloon_resuming
-<<<<<<< f4895c43
+<<<<<<< 8bde38ab
 use Rattle.vsock_device.specs.declared.data.Vsock.{Vsock as VsockData}
 use Rattle.vsock_device.specs.declared.kind.Stage.{Stage as VsockStage}
 use Rattle.vsock_device.specs.declared.kind.VsockKind.{VsockKind}
@@ -93,7 +93,7 @@ net_laws = record {
   held = λ p r e g is. (device.Net (net_with p r e g), refl);
 }
 
-<<<<<<< f4895c43
+<<<<<<< 8bde38ab
 -- ---- a vsock device
 
 pub vsock_unchanged : (change : DeviceChange) → change_for change Vsock ≡ None
@@ -149,7 +149,7 @@ balloon_laws = record {
 pub laws : (k : Kind) → KindLaws k
 laws Block = block_laws
 laws Net = net_laws
-<<<<<<< f4895c43
+<<<<<<< 8bde38ab
 laws Vsock = vsock_laws
 laws Balloon = balloon_laws
 =======

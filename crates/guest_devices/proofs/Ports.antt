@@ -1,5 +1,5 @@
 -- Each field of a new device's port has its width.
-<<<<<<< f4895c43
+<<<<<<< 8bde38ab
 use Rattle.std.proofs.Common.{◌≡◌, ◌<◌, ◌^◌, ◌==◌, ℕ, Bool, true, false, not, refl, arith, Option, Some, None, unwrap_or}
 =======
 use Rattle.std.proofs.Common.{◌≡◌, ◌<◌, ◌^◌, ◌==◌, ℕ, Bool, true, false, not, refl, arith, Option, Some, None, unwrap_or, List, ◌++◌}
@@ -16,7 +16,7 @@ use Rattle.port_table.specs.Sizes.{IsKept}
 use Rattle.port_table.proofs.Sizes.{new_stays}
 use Rattle.net_device.specs.declared.new_net.NewNet.{NewNet}
 use Rattle.net_device.specs.Port as net
-<<<<<<< f4895c43
+<<<<<<< 8bde38ab
 use Rattle.vsock_device.specs.declared.new_vsock.NewVsock.{NewVsock}
 use Rattle.vsock_device.specs.Port as vsock
 =======
@@ -54,7 +54,7 @@ mac_small (Some mac) =
 net_kept : (n : NewNet) → IsKept numbers.Net (net.net_port n)
 net_kept n = new_stays numbers.Net (net.offered n) (net.config_of n.mac) (mac_small n.mac) (all_bytes 8 (unwrap_or n.mac 0))
 
-<<<<<<< f4895c43
+<<<<<<< 8bde38ab
 -- ---- a vsock device
 
 vsock_kept : (v : NewVsock) → IsKept numbers.Vsock (vsock.vsock_port v)
@@ -80,7 +80,7 @@ balloon_kept b =
 pub start_kind : (what : NewDevice) → (port_at_start what).kind ≡ number_of (kind_at_start what)
 start_kind (starts.Block d) = refl
 start_kind (starts.Net n) = refl
-<<<<<<< f4895c43
+<<<<<<< 8bde38ab
 start_kind (starts.Vsock v) = refl
 =======
 >>>>>>> m
@@ -89,7 +89,7 @@ start_kind (starts.Balloon b) = refl
 pub start_kept : (what : NewDevice) → IsKept (port_at_start what).kind (port_at_start what)
 start_kept (starts.Block d) = block_kept d
 start_kept (starts.Net n) = net_kept n
-<<<<<<< f4895c43
+<<<<<<< 8bde38ab
 start_kept (starts.Vsock v) = vsock_kept v
 =======
 >>>>>>> m

@@ -1,5 +1,5 @@
 -- What devices have still to do, by what the code keeps of them.
-<<<<<<< f4895c43
+<<<<<<< 8bde38ab
 use Rattle.std.specs.Prelude.{ℕ, ◌≡◌, ◌≤◌, ◌^◌, ◌&&◌, nat_le, nat_lt, Bool, true, false, Option, Some, None, List, [], ◌∷◌, length, map, slice_set}
 =======
 use Rattle.std.specs.Prelude.{ℕ, ◌≤◌, ◌^◌, ◌&&◌, nat_le, nat_lt, Bool, true, false, Option, Some, None, List, length, map, slice_set}
@@ -12,7 +12,7 @@ use Rattle.queue_device.specs.Chains.{Chain}
 use Rattle.queue_device.specs.Kept.{is_state}
 use Rattle.queue_device.specs.Left.{left_at, queued}
 use Rattle.queue_device.specs.Resuming.{AreShort}
-<<<<<<< f4895c43
+<<<<<<< 8bde38ab
 use Rattle.vsock_device.specs.Reset.{is_unconnected}
 use Rattle.guest_devices.specs.declared.device.Device.{Device}
 use Rattle.guest_devices.specs.declared.device.Device.TheVariants as device
@@ -125,7 +125,7 @@ is_sized d = is_fine_of d.kind d.own && nat_lt d.rounds.pages (2 ^ 32) && are_sh
 -- such data may be kept of a device: it may be in this state, and each size is one that its field holds
 abbrev pub is_kept : Device → Bool
 is_kept d = is_state_kept (kept_of d) && is_sized (kept_of d)
-<<<<<<< f4895c43
+<<<<<<< 8bde38ab
 
 -- this is kept of a device behind the Reset that comes before a create
 abbrev pub IsReset : Device → Device → Type 0

@@ -1,5 +1,5 @@
 -- The kinds of devices that a guest may have: each table has a line a kind.
-<<<<<<< f4895c43
+<<<<<<< 8bde38ab
 use Rattle.std.specs.Prelude.{ℕ, ◌<◌, ◌^◌, nat_lt, Bool, true, Option, Some, None, [], false}
 =======
 use Rattle.std.specs.Prelude.{ℕ, ◌<◌, ◌^◌, nat_lt, Bool, true, Option, Some, None, []}
@@ -23,7 +23,7 @@ use Rattle.net_device.specs.declared.kind.NetChange.{NetChange}
 use Rattle.net_device.specs.declared.kind.NetChange.TheVariants.{Receives, Transmits}
 use Rattle.net_device.specs.Net as nets
 use Rattle.net_device.specs.Work as net_work
-<<<<<<< f4895c43
+<<<<<<< 8bde38ab
 use Rattle.vsock_device.specs.declared.data.VsockChange.{VsockChange}
 use Rattle.vsock_device.specs.declared.data.VsockChange.TheVariants.{Reset}
 use Rattle.vsock_device.specs.declared.data.Vsock.{Vsock as VsockData}
@@ -49,7 +49,7 @@ use Rattle.guest_devices.specs.declared.new_device.NewDevice.TheVariants as star
 pub data Kind : Type 0 where
   Block : Kind
   Net : Kind
-<<<<<<< f4895c43
+<<<<<<< 8bde38ab
   Vsock : Kind
 =======
 >>>>>>> m
@@ -61,7 +61,7 @@ pub data Kind : Type 0 where
 abbrev pub OwnOf : Kind → Type 0
 OwnOf Block = BlockData
 OwnOf Net = nets.Net
-<<<<<<< f4895c43
+<<<<<<< 8bde38ab
 OwnOf Vsock = VsockData
 =======
 >>>>>>> m
@@ -71,7 +71,7 @@ OwnOf Balloon = balloons.Balloon
 abbrev pub ChangeOf : Kind → Type 0
 ChangeOf Block = BlockChange
 ChangeOf Net = NetChange
-<<<<<<< f4895c43
+<<<<<<< 8bde38ab
 ChangeOf Vsock = VsockChange
 =======
 >>>>>>> m
@@ -81,7 +81,7 @@ ChangeOf Balloon = BalloonChange
 abbrev pub service_of : (k : Kind) → Service (OwnOf k)
 service_of Block = block
 service_of Net = nets.net
-<<<<<<< f4895c43
+<<<<<<< 8bde38ab
 service_of Vsock = vsocks.vsock
 =======
 >>>>>>> m
@@ -91,7 +91,7 @@ service_of Balloon = balloons.balloon
 abbrev pub changing_of : (k : Kind) → Changing (OwnOf k) (ChangeOf k)
 changing_of Block = setting changed
 changing_of Net = setting nets.limited
-<<<<<<< f4895c43
+<<<<<<< 8bde38ab
 changing_of Vsock = resetting
 =======
 >>>>>>> m
@@ -101,7 +101,7 @@ changing_of Balloon = setting balloons.changed
 abbrev pub calls_of : Kind → OutOp → Bool
 calls_of Block = is_disk_call
 calls_of Net = nets.is_link_call
-<<<<<<< f4895c43
+<<<<<<< 8bde38ab
 calls_of Vsock = vsocks.is_host_call
 =======
 >>>>>>> m
@@ -111,7 +111,7 @@ calls_of Balloon = balloons.no_call
 abbrev pub times_of : Kind → Bool
 times_of Block = true
 times_of Net = true
-<<<<<<< f4895c43
+<<<<<<< 8bde38ab
 times_of Vsock = false
 =======
 >>>>>>> m
@@ -122,7 +122,7 @@ times_of Balloon = true
 abbrev pub kind_at_start : NewDevice → Kind
 kind_at_start (starts.Block d) = Block
 kind_at_start (starts.Net n) = Net
-<<<<<<< f4895c43
+<<<<<<< 8bde38ab
 kind_at_start (starts.Vsock v) = Vsock
 =======
 >>>>>>> m
@@ -132,7 +132,7 @@ abbrev pub own_at_start : (what : NewDevice) → OwnOf (kind_at_start what)
 own_at_start (starts.Block d) =
     record { sectors = d.sectors; drive_id = d.drive_id; is_read_only = d.is_read_only; limits = d.limits }
 own_at_start (starts.Net n) = record { text = []; rx = n.rx; tx = n.tx }
-<<<<<<< f4895c43
+<<<<<<< 8bde38ab
 own_at_start (starts.Vsock v) = new_data v.guest_cid
 =======
 >>>>>>> m
@@ -140,7 +140,7 @@ own_at_start (starts.Balloon w) = record { interval = w.interval; last = 0; stat
 
 -- ---- what it is told of
 
-<<<<<<< f4895c43
+<<<<<<< 8bde38ab
 -- the change that this is to a device of its kind; to one of another kind it is none. The API changes nothing of a vsock device.
 =======
 -- the change that this is to a device of its kind; to one of another kind it is none
@@ -177,7 +177,7 @@ FitsChange (changes.Balloon c) = Unit {0}
 abbrev pub reset_for : (k : Kind) → Option (ChangeOf k)
 reset_for Block = None
 reset_for Net = None
-<<<<<<< f4895c43
+<<<<<<< 8bde38ab
 reset_for Vsock = Some Reset
 =======
 >>>>>>> m
@@ -189,7 +189,7 @@ reset_for Balloon = None
 abbrev pub StageOf : Kind → Type 0
 StageOf Block = block_working.Working
 StageOf Net = net_work.AtWork
-<<<<<<< f4895c43
+<<<<<<< 8bde38ab
 StageOf Vsock = VsockStage
 =======
 >>>>>>> m
@@ -198,7 +198,7 @@ StageOf Balloon = Stage
 abbrev pub hand_of : (k : Kind) → StageOf k → Hand (OwnOf k)
 hand_of Block = block_working.hand_of
 hand_of Net = net_work.hand_of
-<<<<<<< f4895c43
+<<<<<<< 8bde38ab
 hand_of Vsock = vsock_work.hand_of
 =======
 >>>>>>> m
@@ -208,7 +208,7 @@ hand_of Balloon = balloon_work.hand_of
 abbrev pub is_work_of : (k : Kind) → Work → ℕ → StageOf k → Bool
 is_work_of Block = block_kept.is_work
 is_work_of Net = net_work.is_work
-<<<<<<< f4895c43
+<<<<<<< 8bde38ab
 is_work_of Vsock = vsock_work.is_work
 =======
 >>>>>>> m
@@ -218,7 +218,7 @@ is_work_of Balloon = balloon_work.is_work
 abbrev pub IsFineOf : (k : Kind) → OwnOf k → Type 0
 IsFineOf Block e = e.sectors < 2 ^ 64
 IsFineOf Net e = net_work.AnyNet e
-<<<<<<< f4895c43
+<<<<<<< 8bde38ab
 IsFineOf Vsock e = vsock_work.AnyVsock e
 =======
 >>>>>>> m
@@ -227,7 +227,7 @@ IsFineOf Balloon e = balloon_work.AnyBalloon e
 abbrev pub is_fine_of : (k : Kind) → OwnOf k → Bool
 is_fine_of Block e = nat_lt e.sectors (2 ^ 64)
 is_fine_of Net e = true
-<<<<<<< f4895c43
+<<<<<<< 8bde38ab
 is_fine_of Vsock e = true
 =======
 >>>>>>> m
@@ -239,7 +239,7 @@ is_fine_of Balloon e = true
 abbrev pub IsSmallOf : (k : Kind) → StageOf k → Type 0
 IsSmallOf Block g = block_working.IsSmallWork g
 IsSmallOf Net g = net_work.IsSmallWork g
-<<<<<<< f4895c43
+<<<<<<< 8bde38ab
 IsSmallOf Vsock g = vsock_small.IsSmallStage g
 =======
 >>>>>>> m
@@ -249,7 +249,7 @@ IsSmallOf Balloon g = balloon_work.IsSmallStage g
 abbrev pub SizedOf : Kind → Type 0
 SizedOf Block = block_working.SizedWork true
 SizedOf Net = net_work.SizedWork true
-<<<<<<< f4895c43
+<<<<<<< 8bde38ab
 SizedOf Vsock = vsock_small.SizedStage true
 =======
 >>>>>>> m
@@ -258,7 +258,7 @@ SizedOf Balloon = balloon_work.SizedStage true
 abbrev pub sized_in : (k : Kind) (g : StageOf k) → IsSmallOf k g → SizedOf k
 sized_in Block g small = record { work = g; small = λ yes. small }
 sized_in Net g small = record { work = g; small = λ yes. small }
-<<<<<<< f4895c43
+<<<<<<< 8bde38ab
 sized_in Vsock g small = record { stage = g; small = λ yes. small }
 =======
 >>>>>>> m
@@ -267,7 +267,7 @@ sized_in Balloon g small = record { stage = g; small = λ yes. small }
 abbrev pub stage_in : (k : Kind) → SizedOf k → StageOf k
 stage_in Block g = g.work
 stage_in Net g = g.work
-<<<<<<< f4895c43
+<<<<<<< 8bde38ab
 stage_in Vsock g = g.stage
 =======
 >>>>>>> m
@@ -276,7 +276,7 @@ stage_in Balloon g = g.stage
 abbrev pub sized_hand_of : (k : Kind) → SizedOf k → Hand (OwnOf k)
 sized_hand_of Block = block_working.sized_hand true
 sized_hand_of Net = net_work.sized_hand true
-<<<<<<< f4895c43
+<<<<<<< 8bde38ab
 sized_hand_of Vsock = vsock_small.sized_hand true
 =======
 >>>>>>> m
@@ -285,7 +285,7 @@ sized_hand_of Balloon = balloon_work.sized_hand true
 abbrev pub is_sized_work_of : (k : Kind) → Work → ℕ → SizedOf k → Bool
 is_sized_work_of Block = block_states.is_sized_work
 is_sized_work_of Net = net_work.is_sized_work true
-<<<<<<< f4895c43
+<<<<<<< 8bde38ab
 is_sized_work_of Vsock = vsock_small.is_sized_work true
 =======
 >>>>>>> m
@@ -295,7 +295,7 @@ is_sized_work_of Balloon = balloon_work.is_sized_work true
 abbrev pub IsSizedOf : (k : Kind) → OwnOf k → Type 0
 IsSizedOf Block = block_working.IsSizedData true
 IsSizedOf Net = net_work.IsSizedData true
-<<<<<<< f4895c43
+<<<<<<< 8bde38ab
 IsSizedOf Vsock = vsock_small.IsSizedData true
 =======
 >>>>>>> m

@@ -10,7 +10,7 @@ use Rattle.port_table.specs.Kinds.{feature_mask}
 use Rattle.port_table.specs.Ports.{new_port}
 use Rattle.block_device.specs.declared.kind.BlockChange.TheVariants.{Limits, Sectors}
 use Rattle.net_device.specs.Port.{net_port}
-<<<<<<< f4895c43
+<<<<<<< 8bde38ab
 use Rattle.vsock_device.specs.Port.{vsock_port}
 =======
 >>>>>>> m
@@ -20,7 +20,7 @@ use Rattle.guest_devices.specs.declared.change.DeviceChange.TheVariants as chang
 use Rattle.guest_devices.specs.declared.drive.NewDrive.{NewDrive}
 use Rattle.guest_devices.specs.declared.new_device.NewDevice.{NewDevice}
 use Rattle.guest_devices.specs.declared.new_device.NewDevice.TheVariants as starts
-<<<<<<< f4895c43
+<<<<<<< 8bde38ab
 use Rattle.guest_devices.specs.Kinds.{Balloon, Block, Kind, Net, Vsock}
 =======
 use Rattle.guest_devices.specs.Kinds.{Balloon, Block, Kind, Net}
@@ -48,7 +48,7 @@ block_port d = new_port numbers.Block (offered d) (capacity d.sectors)
 abbrev pub number_of : Kind → DeviceKind
 number_of Block = numbers.Block
 number_of Net = numbers.Net
-<<<<<<< f4895c43
+<<<<<<< 8bde38ab
 number_of Vsock = numbers.Vsock
 =======
 >>>>>>> m
@@ -57,7 +57,7 @@ number_of Balloon = numbers.Balloon
 abbrev pub port_at_start : NewDevice → PortState
 port_at_start (starts.Block d) = block_port d
 port_at_start (starts.Net n) = net_port n
-<<<<<<< f4895c43
+<<<<<<< 8bde38ab
 port_at_start (starts.Vsock v) = vsock_port v
 =======
 >>>>>>> m

@@ -1,6 +1,6 @@
 // A device of any kind as an actor.
 ghost use Rattle.std.specs.Prelude.{◌≡◌, true};
-<<<<<<< f4895c43
+<<<<<<< 8bde38ab
 ghost use Rattle.guest_devices.specs.Devices.{device_changed, left_reset, new_left};
 ghost use Rattle.guest_devices.specs.Kept.{IsReset, device_left, device_pages, device_port, is_kept, is_saved, kept_of};
 =======
@@ -16,7 +16,7 @@ use crate::block::{block_again, give_block, new_block, port_of_block, tell_block
 use crate::change::DeviceChange;
 use crate::net::{give_net, net_again, new_net, port_of_net, tell_net, want_of_net};
 use crate::new_device::NewDevice;
-<<<<<<< f4895c43
+<<<<<<< 8bde38ab
 use crate::vsock::{
     give_vsock, new_vsock, port_of_vsock, reset_vsock, tell_vsock, vsock_again, want_of_vsock,
 };
@@ -34,7 +34,7 @@ use vsock_device::VsockDevice;
 pub enum Device {
     Block(Block),
     Net(NetDevice),
-<<<<<<< f4895c43
+<<<<<<< 8bde38ab
     Vsock(VsockDevice),
 =======
 >>>>>>> m
@@ -49,7 +49,7 @@ impl Device {
         match what {
             NewDevice::Block(drive) => Device::Block(new_block(port, pages, drive)),
             NewDevice::Net(what) => Device::Net(new_net(port, pages, what)),
-<<<<<<< f4895c43
+<<<<<<< 8bde38ab
             NewDevice::Vsock(what) => Device::Vsock(new_vsock(port, pages, what)),
 =======
 >>>>>>> m
@@ -65,7 +65,7 @@ impl Device {
         match self {
             Device::Block(block) => port_of_block(block),
             Device::Net(net) => port_of_net(net),
-<<<<<<< f4895c43
+<<<<<<< 8bde38ab
             Device::Vsock(vsock) => port_of_vsock(vsock),
 =======
 >>>>>>> m
@@ -80,7 +80,7 @@ impl Device {
         match self {
             Device::Block(_) => DeviceKind::Block,
             Device::Net(_) => DeviceKind::Net,
-<<<<<<< f4895c43
+<<<<<<< 8bde38ab
             Device::Vsock(_) => DeviceKind::Vsock,
 =======
 >>>>>>> m
@@ -95,7 +95,7 @@ impl Device {
         match self {
             Device::Block(block) => block.state().rounds.pages,
             Device::Net(net) => net.state().rounds.pages,
-<<<<<<< f4895c43
+<<<<<<< 8bde38ab
             Device::Vsock(vsock) => vsock.state().rounds.pages,
 =======
 >>>>>>> m
@@ -111,7 +111,7 @@ impl Device {
         match self {
             Device::Block(block) => Device::Block(block_again(block)),
             Device::Net(net) => Device::Net(net_again(net)),
-<<<<<<< f4895c43
+<<<<<<< 8bde38ab
             Device::Vsock(vsock) => Device::Vsock(vsock_again(vsock)),
 =======
 >>>>>>> m
@@ -119,7 +119,7 @@ impl Device {
         }
     }
 
-<<<<<<< f4895c43
+<<<<<<< 8bde38ab
     /// A change of its kind. One of another kind is none, and each is to a vsock device.
 =======
     /// A change of its kind. One of another kind is none.
@@ -130,7 +130,7 @@ impl Device {
         match self {
             Device::Block(block) => tell_block(block, change),
             Device::Net(net) => tell_net(net, change),
-<<<<<<< f4895c43
+<<<<<<< 8bde38ab
             Device::Vsock(vsock) => tell_vsock(vsock, change),
 =======
 >>>>>>> m
@@ -138,7 +138,7 @@ impl Device {
         }
     }
 
-<<<<<<< f4895c43
+<<<<<<< 8bde38ab
     fn reset_of_kind(&mut self)
         ensures { device_left self.new ≡ left_reset (device_left self.old) }
     {
@@ -187,7 +187,7 @@ impl Actor for Device {
         match self {
             Device::Block(block) => want_of_block(block),
             Device::Net(net) => want_of_net(net),
-<<<<<<< f4895c43
+<<<<<<< 8bde38ab
             Device::Vsock(vsock) => want_of_vsock(vsock),
 =======
 >>>>>>> m
@@ -199,7 +199,7 @@ impl Actor for Device {
         match self {
             Device::Block(block) => give_block(block, reply),
             Device::Net(net) => give_net(net, reply),
-<<<<<<< f4895c43
+<<<<<<< 8bde38ab
             Device::Vsock(vsock) => give_vsock(vsock, reply),
 =======
 >>>>>>> m

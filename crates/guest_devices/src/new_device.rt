@@ -3,7 +3,7 @@
 use crate::drive::NewDrive;
 use balloon_device::NewBalloon;
 use net_device::NewNet;
-<<<<<<< f4895c43
+<<<<<<< 8bde38ab
 use vsock_device::NewVsock;
 =======
 >>>>>>> m
@@ -13,7 +13,7 @@ use vsock_device::NewVsock;
 pub enum NewDevice {
     Block(NewDrive),
     Net(NewNet),
-<<<<<<< f4895c43
+<<<<<<< 8bde38ab
     Vsock(NewVsock),
 =======
 >>>>>>> m

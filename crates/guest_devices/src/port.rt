@@ -2,7 +2,7 @@
 ghost use Rattle.std.specs.Prelude.{◌≡◌};
 ghost use Rattle.balloon_device.specs.Port as balloon;
 ghost use Rattle.net_device.specs.Port as net;
-<<<<<<< f4895c43
+<<<<<<< 8bde38ab
 ghost use Rattle.vsock_device.specs.Port as vsock;
 =======
 >>>>>>> m
@@ -21,7 +21,7 @@ use le_fields::put64;
 use mmio_port::Port;
 use net_device::{NewNet, configuration as net_configuration};
 use port_table::{DeviceKind, Feature};
-<<<<<<< f4895c43
+<<<<<<< 8bde38ab
 use vsock_device::{NewVsock, configuration as vsock_configuration};
 =======
 >>>>>>> m
@@ -66,7 +66,7 @@ fn net_port(what: &NewNet) -> Port
     )
 }
 
-<<<<<<< f4895c43
+<<<<<<< 8bde38ab
 fn vsock_port(what: &NewVsock) -> Port
     ensures port { result ≡ vsock.vsock_port what.now }
     ensures fits { (new : NewDevice) → new ≡ starts.Vsock what.now → FitsNew new }
@@ -96,7 +96,7 @@ pub fn port_at_start(what: &NewDevice) -> Port
     match what {
         NewDevice::Block(drive) => block_port(drive),
         NewDevice::Net(what) => net_port(what),
-<<<<<<< f4895c43
+<<<<<<< 8bde38ab
         NewDevice::Vsock(what) => vsock_port(what),
 =======
 >>>>>>> m

@@ -13,7 +13,7 @@ use Rattle.vm_types.specs.declared.op.Op.TheVariants.{Read, Write, Amo, Lr, Sc}
 use Rattle.vm_types.specs.declared.reply.Reply.{Reply}
 use Rattle.vm_types.specs.declared.reply.Reply.TheVariants.{Done, Bytes, Word, AccessFault}
 use Rattle.vm_types.specs.Ids.{same_actor}
-use Rattle.amo_table.specs.Amo.{amo_value}
+use Rattle.guest_memory.specs.Amo.{amo_value}
 use Rattle.guest_memory.specs.Kept.{AreLoads, AreSlots, IsByte, IsKept, IsOneOf, IsSlot, IsSmallOp, IsSmallReply}
 use Rattle.guest_memory.specs.Boot.{Loads, boot_memory, bytes_of_mib, image_offset, initrd_start, laid, tree_start, with_initrd}
 use Rattle.guest_memory.specs.Memory.{Memory, put_at, read_from, reserving, stored, touch, word_at, written}

@@ -8,7 +8,7 @@ use Rattle.vm_types.specs.declared.op.Op.{Op}
 use Rattle.vm_types.specs.declared.op.Op.TheVariants.{Read, Write, Amo, Lr, Sc}
 use Rattle.vm_types.specs.declared.reply.Reply.{Reply}
 use Rattle.vm_types.specs.declared.reply.Reply.TheVariants.{Done, Bytes, Word, AccessFault}
-use Rattle.amo_table.specs.Amo.{amo_value}
+use Rattle.guest_memory.specs.Amo.{amo_value}
 use Rattle.guest_memory.specs.Kept.{AreSlots, IsOneOf}
 use Rattle.guest_memory.specs.Boot.{Loads, boot_memory, bytes_of_mib}
 use Rattle.guest_memory.specs.Memory.{Memory, read_from, reserving, stored, touch, word_at, written}

@@ -1,3 +1,4 @@
+pub mod Amo
 pub mod Boot
 pub mod Fitting
 pub mod Kept

@@ -8,10 +8,6 @@ use Rattle.vm_types.specs.Ids.{same_actor}
 use Rattle.guest_memory.specs.Reserved.{hart_limit, reaches, granule_start, slots_after}
 use Rattle.guest_pages.specs.Flat.{AreInside}
 
-pub length-slots_after : (writer : ActorId) (at len slot : ℕ) (slots : List (Option ℕ)) → length (slots_after writer at len slot slots) ≡ length slots
-length-slots_after writer at len slot [] = refl
-length-slots_after writer at len slot (held ∷ rest) = ap suc (length-slots_after writer at len (suc slot) rest)
-
 pub nothing_ends : (writer : ActorId) (at len slot : ℕ) (slots : List (Option ℕ)) → 0 ≡ count_by is_some slots → slots ≡ slots_after writer at len slot slots
 nothing_ends writer at len slot [] none = refl
 nothing_ends writer at len slot (None ∷ rest) none =

@@ -1,7 +1,7 @@
 -- Bytes in a page of a set, and the pages of a set.
 use Rattle.std.proofs.Common.{◌≡◌, ℕ, zero, suc, ◌+◌, ◌*◌, ◌-◌, ◌/◌, ◌%◌, ◌<◌, ◌≤◌, nat_le, Bool, true, false, cond, ◌&&◌, List, [], ◌∷◌, length, get_or, set, refl, ap, ◌∙◌, subst, arith, length-append}
 use Rattle.std.specs.List.{flat_map}
-use Rattle.std.proofs.lemmas.Bool.{leb-true, le-leb}
+use Rattle.std.proofs.lemmas.Bool.{leb-true, le-leb, and_parts}
 use Rattle.vm_types.specs.declared.ids.PlaceId.{PlaceId}
 use Rattle.guest_memory.specs.Ram.{ram_start, page_size, is_ram}
 use Rattle.guest_memory.specs.Route.{page_of}
@@ -11,10 +11,6 @@ use Rattle.guest_pages.specs.Flat.{IsPage, ArePages}
 pub and_left : (a b : Bool) → (a && b) ≡ true → a ≡ true
 and_left true b h = refl
 and_left false b h = cc
-
-pub and_right : (a b : Bool) → (a && b) ≡ true → b ≡ true
-and_right true b h = h
-and_right false b h = cc
 
 -- the bytes, one at least, are in page i and in RAM
 pub record IsHere (size i at len : ℕ) : Type 0 where
@@ -33,11 +29,11 @@ here size at len i e =
     let o = at - ram_start in
     let picked = chosen (nat_le 1 len && is_ram size at len && nat_le (o % page_size + len) page_size) (o / page_size) i e in
     let both = and_left (nat_le 1 len && is_ram size at len) (nat_le (o % page_size + len) page_size) picked.0 in
-    let ram = and_right (nat_le 1 len) (is_ram size at len) both in
+    let ram = (and_parts (nat_le 1 len) (is_ram size at len) both).1 in
     let some : 1 ≤ len = leb-true 1 len (and_left (nat_le 1 len) (is_ram size at len) both) in
     let start : ram_start ≤ at = leb-true ram_start at (and_left (nat_le ram_start at) (nat_le (o + len) size) ram) in
-    let below : o + len ≤ size = leb-true (o + len) size (and_right (nat_le ram_start at) (nat_le (o + len) size) ram) in
-    let inside : o % page_size + len ≤ page_size = leb-true (o % page_size + len) page_size (and_right (nat_le 1 len && is_ram size at len) (nat_le (o % page_size + len) page_size) picked.0) in
+    let below : o + len ≤ size = leb-true (o + len) size (and_parts (nat_le ram_start at) (nat_le (o + len) size) ram).1 in
+    let inside : o % page_size + len ≤ page_size = leb-true (o % page_size + len) page_size (and_parts (nat_le 1 len && is_ram size at len) (nat_le (o % page_size + len) page_size) picked.0).1 in
     let number : o / page_size ≡ i = picked.1 in
     record { some = some; from = omega arith; to = omega arith; ram = ram; below = below }
 

@@ -7,7 +7,7 @@ use Rattle.vm_types.specs.declared.op.Op.{Op}
 use Rattle.vm_types.specs.declared.op.Op.TheVariants.{Read, Write, Amo, Lr, Sc}
 use Rattle.vm_types.specs.declared.reply.Reply.{Reply}
 use Rattle.vm_types.specs.declared.reply.Reply.TheVariants.{Done, Bytes, Word, AccessFault}
-use Rattle.amo_table.specs.Amo.{amo_value}
+use Rattle.guest_memory.specs.Amo.{amo_value}
 use Rattle.guest_memory.specs.Reserved.{granule_of, held_by, is_granule}
 use Rattle.guest_memory.specs.Words.{width_of, word_bytes}
 use Rattle.guest_pages.specs.Pages.{PageValue, is_within, page_read, page_word, page_written, page_reserving, page_made, page_touch, page_holding, cleared, flat_of, marks_of}

@@ -1,35 +1,29 @@
 -- An act leaves a page a page.
-use Rattle.std.proofs.Common.{◌≡◌, ℕ, ◌+◌, ◌*◌, ◌-◌, ◌%◌, ◌<◌, ◌≤◌, nat_le, nat_lt, Bool, true, false, cond, ◌&&◌, List, [], ◌∷◌, ◌++◌, Option, Some, None, length, take, drop, set, refl, ap, ◌∙◌, arith, length-append, length-drop, length-set}
-use Rattle.std.proofs.lemmas.Bool.{leb-true}
-use Rattle.std.proofs.lemmas.List.{length-take-le}
+use Rattle.std.proofs.Common.{◌≡◌, ℕ, ◌+◌, ◌*◌, ◌-◌, ◌%◌, ◌<◌, ◌≤◌, nat_le, nat_lt, Bool, true, false, cond, ◌&&◌, List, [], ◌∷◌, Option, Some, None, length, set, refl, ap, ◌∙◌, arith, length-set}
+use Rattle.std.proofs.lemmas.Bool.{and_parts, leb-true}
 use Rattle.vm_types.specs.declared.ids.ActorId.{ActorId}
 use Rattle.vm_types.specs.declared.ids.ActorId.TheVariants.{Hart}
 use Rattle.vm_types.specs.declared.op.Op.{Op}
 use Rattle.vm_types.specs.declared.op.Op.TheVariants.{Read, Write, Amo, Lr, Sc}
 use Rattle.vm_types.specs.declared.reply.Reply.{Reply}
 use Rattle.vm_types.specs.declared.reply.Reply.TheVariants.{Done, Bytes, Word, AccessFault}
-use Rattle.amo_table.specs.Amo.{amo_value}
-use Rattle.guest_memory.specs.Memory.{put_at}
+use Rattle.guest_memory.specs.Amo.{amo_value}
 use Rattle.guest_memory.specs.Reserved.{hart_limit, granule_of, held_by, is_granule}
 use Rattle.guest_memory.specs.Words.{width_of, word_bytes}
+<<<<<<< 8bde38ab
+use Rattle.guest_memory.proofs.Ending.{length-slots_after}
+use Rattle.guest_memory.proofs.Keeping.{put_long, word_long}
+=======
+>>>>>>> m
 use Rattle.guest_pages.specs.Pages.{PageValue, page_start, is_within, page_read, page_word, page_written, page_reserving, page_touch, page_made, unmarked, patched, page_holding}
 use Rattle.guest_pages.specs.Flat.{AreInside, IsPage}
-use Rattle.guest_pages.proofs.Ending.{length-slots_after, inside_after, inside_set}
-use Rattle.guest_pages.proofs.Here.{and_right}
-
-pub length-word_bytes : (wide : Bool) (value : ℕ) → length (word_bytes wide value) ≡ width_of wide
-length-word_bytes true value = refl
-length-word_bytes false value = refl
-
-length-put_at : (xs piece : List ℕ) (o : ℕ) → o + length piece ≤ length xs → length (put_at xs o piece) ≡ length xs
-length-put_at xs piece o inside =
-    length-append (take o xs ++ piece) (drop (o + length piece) xs) ∙ omega (arith, length-append (take o xs) piece, length-take-le o xs (omega arith), length-drop (o + length piece) xs)
+use Rattle.guest_pages.proofs.Ending.{inside_after, inside_set}
 
 module _ (i : ℕ) (p : PageValue) (actor : ActorId) (is : IsPage i p) where
   pub written_stays : (at : ℕ) (piece : List ℕ) → is_within p.number (length p.bytes) at (length piece) ≡ true → IsPage i (page_written p actor at piece)
   written_stays at piece within = record {
     numbered = is.numbered;
-    whole = length-put_at p.bytes piece (at - page_start p.number) (leb-true (at - page_start p.number + length piece) (length p.bytes) (and_right (nat_le 1 (length piece) && nat_le (page_start p.number) at) (nat_le (at - page_start p.number + length piece) (length p.bytes)) within)) ∙ is.whole;
+    whole = put_long p.bytes piece (at - page_start p.number) (leb-true (at - page_start p.number + length piece) (length p.bytes) (and_parts (nat_le 1 (length piece) && nat_le (page_start p.number) at) (nat_le (at - page_start p.number + length piece) (length p.bytes)) within).1) ∙ is.whole;
     slotted = length-slots_after actor at (length piece) (hart_limit * p.number) p.reserved ∙ is.slotted;
     inside = inside_after actor at (length piece) (hart_limit * p.number) p.reserved is.inside;
   }
@@ -70,7 +64,7 @@ page_stays i p actor (Write at piece) is = write_stays (is_within p.number (leng
 page_stays i p actor (Amo at value kind wide) is = amo_stays (is_within p.number (length p.bytes) at (width_of wide)) refl
   where
     amo_stays : (b : Bool) → is_within p.number (length p.bytes) at (width_of wide) ≡ b → IsPage i (let answer : Reply × PageValue = cond b (Word (page_word p at wide), page_written p actor at (word_bytes wide (amo_value kind wide (page_word p at wide) value))) (AccessFault, p) in answer.1)
-    amo_stays true e = written_stays i p actor is at (word_bytes wide (amo_value kind wide (page_word p at wide) value)) (ap (is_within p.number (length p.bytes) at) (length-word_bytes wide (amo_value kind wide (page_word p at wide) value)) ∙ e)
+    amo_stays true e = written_stays i p actor is at (word_bytes wide (amo_value kind wide (page_word p at wide) value)) (ap (is_within p.number (length p.bytes) at) (word_long wide (amo_value kind wide (page_word p at wide) value)) ∙ e)
     amo_stays false e = is
 page_stays i p actor (Lr at wide) is = lr_stays (is_within p.number (length p.bytes) at (width_of wide))
   where
@@ -83,7 +77,7 @@ page_stays i p actor (Sc at value wide) is = sc_stays (is_within p.number (lengt
         → IsPage i (let answer : Reply × PageValue = cond b (cond c (Word 0, page_reserving (page_written p actor at (word_bytes wide value)) actor None) (Word 1, page_reserving p actor None)) (AccessFault, p) in answer.1)
     sc_stays true true e =
         reserving_stays i (page_written p actor at (word_bytes wide value)) actor
-        (written_stays i p actor is at (word_bytes wide value) (ap (is_within p.number (length p.bytes) at) (length-word_bytes wide value) ∙ e)) actor None tt
+        (written_stays i p actor is at (word_bytes wide value) (ap (is_within p.number (length p.bytes) at) (word_long wide value) ∙ e)) actor None tt
     sc_stays true false e = reserving_stays i p actor is actor None tt
     sc_stays false c e = is
 page_stays i p actor op is = is
@@ -95,7 +89,7 @@ unmarked_stays i p is = record { numbered = is.numbered; whole = is.whole; slott
 pub patched_stays : (i : ℕ) (p : PageValue) (offset : ℕ) (piece : List ℕ) (made : Bool) → offset + length piece ≤ 4096 → IsPage i p → IsPage i (record (patched offset piece p) { made = made })
 patched_stays i p offset piece made room is =
     let whole = is.whole in
-    record { numbered = is.numbered; whole = length-put_at p.bytes piece offset (omega (arith, whole)) ∙ whole; slotted = is.slotted; inside = is.inside }
+    record { numbered = is.numbered; whole = put_long p.bytes piece offset (omega (arith, whole)) ∙ whole; slotted = is.slotted; inside = is.inside }
 
 pub holding_stays : (i : ℕ) (p : PageValue) (hart offset : ℕ) → offset < 4096 → offset % 8 ≡ 0 → IsPage i p → IsPage i (page_holding hart offset p)
 holding_stays i p hart offset small aligned is = record {

@@ -10,18 +10,22 @@ use Rattle.vm_types.specs.declared.op.Op.{Op}
 use Rattle.vm_types.specs.declared.op.Op.TheVariants.{Read, Write, Amo, Lr, Sc}
 use Rattle.vm_types.specs.declared.reply.Reply.{Reply}
 use Rattle.vm_types.specs.declared.reply.Reply.TheVariants.{Done, Bytes, Word, AccessFault}
-use Rattle.amo_table.specs.Amo.{amo_value}
+use Rattle.guest_memory.specs.Amo.{amo_value}
 use Rattle.guest_memory.specs.Memory.{Memory, put_at, touch, read_from, word_at, written, reserving, stored}
 use Rattle.guest_memory.specs.Ram.{ram_start, is_ram}
 use Rattle.guest_memory.specs.Reserved.{hart_limit, first_slot, granule_of, held_by, holding, is_granule, slots_after}
 use Rattle.guest_memory.specs.Route.{access_place}
 use Rattle.guest_memory.specs.Words.{width_of, word_of, word_bytes}
+<<<<<<< 8bde38ab
+use Rattle.guest_memory.proofs.Keeping.{word_long}
+=======
+>>>>>>> m
 use Rattle.guest_pages.specs.Pages.{PageValue, page_start, is_within, page_read, page_word, page_written, page_reserving, page_made, page_touch, flat_of}
 use Rattle.guest_pages.specs.Flat.{IsPage, ArePages}
 use Rattle.guest_pages.proofs.Here.{IsHere, here, within, page_at, pages_set}
 use Rattle.guest_pages.proofs.Joined.{read_joined, put_joined}
 use Rattle.guest_pages.proofs.Slotted.{get_joined, set_joined, ended_joined}
-use Rattle.guest_pages.proofs.Staying.{length-word_bytes, written_stays}
+use Rattle.guest_pages.proofs.Staying.{written_stays}
 
 -- the reply is the flat one, and the pages after are the flat memory after
 pub record Touches (pages : List PageValue) (i : ℕ) (answer : Reply × PageValue) (flat : Reply × Memory) : Type 0 where
@@ -185,7 +189,7 @@ module _ (pages : List PageValue) (i : ℕ) (d : PageValue) (are : ArePages 0 pa
       let h = here (length (flat_of pages).bytes) at (width_of wide) i place in
       let word : page_word here_page at wide ≡ word_at (flat_of pages) at wide = ap (word_of wide) (read_is pages i d are lt at (width_of wide) h) in
       let new : ℕ = amo_value kind wide (page_word here_page at wide) value in
-      let long : width_of wide ≡ length (word_bytes wide new) = sym (length-word_bytes wide new) in
+      let long : width_of wide ≡ length (word_bytes wide new) = sym (word_long wide new) in
       both_touch pages i here_page (page_written here_page actor at (word_bytes wide new)) (written (flat_of pages) actor at (word_bytes wide (amo_value kind wide (word_at (flat_of pages) at wide) value)))
       (Word (page_word here_page at wide)) (Word (word_at (flat_of pages) at wide)) (is_within here_page.number (length here_page.bytes) at (width_of wide)) (is_ram (length (flat_of pages).bytes) at (width_of wide)) (is_here_within pages i d are lt at (width_of wide) h) h.ram (ap Word word)
       (written_is pages i d are lt actor at (word_bytes wide new) (subst (λ (len : ℕ). IsHere (length (flat_of pages).bytes) i at len) long h)
@@ -201,7 +205,7 @@ module _ (pages : List PageValue) (i : ℕ) (d : PageValue) (are : ArePages 0 pa
   touches actor (Sc at value wide) place =
       let h = here (length (flat_of pages).bytes) at (width_of wide) i place in
       let first = first_is (length (flat_of pages).bytes) i at (width_of wide) h in
-      let long : width_of wide ≡ length (word_bytes wide value) = sym (length-word_bytes wide value) in
+      let long : width_of wide ≡ length (word_bytes wide value) = sym (word_long wide value) in
       stored_touches pages i here_page (page_reserving (page_written here_page actor at (word_bytes wide value)) actor None) (page_reserving here_page actor None)
       (reserving (written (flat_of pages) actor at (word_bytes wide value)) actor at None) (reserving (flat_of pages) actor at None)
       (is_within here_page.number (length here_page.bytes) at (width_of wide)) (is_ram (length (flat_of pages).bytes) at (width_of wide))

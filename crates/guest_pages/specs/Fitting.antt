@@ -7,7 +7,7 @@ use Rattle.vm_types.specs.declared.op.Op.{Op}
 use Rattle.vm_types.specs.declared.op.Op.TheVariants.{Read, Write, Amo, Lr, Sc}
 use Rattle.vm_types.specs.declared.reply.Reply.TheVariants.{Done, Bytes, Word, AccessFault}
 use Rattle.vm_types.specs.Fits.{fits}
-use Rattle.amo_table.specs.Amo.{amo_value}
+use Rattle.guest_memory.specs.Amo.{amo_value}
 use Rattle.guest_memory.specs.Fitting.{fits_either}
 use Rattle.guest_memory.specs.Memory.{is_access}
 use Rattle.guest_memory.specs.Reserved.{granule_of, held_by, is_granule}

@@ -6,7 +6,7 @@ use Rattle.vm_types.specs.declared.op.Op.{Op}
 use Rattle.vm_types.specs.declared.op.Op.TheVariants.{Read, Write, Amo, Lr, Sc}
 use Rattle.vm_types.specs.declared.reply.Reply.{Reply}
 use Rattle.vm_types.specs.declared.reply.Reply.TheVariants.{Done, Bytes, Word, AccessFault}
-use Rattle.amo_table.specs.Amo.{amo_value}
+use Rattle.guest_memory.specs.Amo.{amo_value}
 use Rattle.guest_memory.specs.Memory.{Memory, put_at}
 use Rattle.guest_memory.specs.Ram.{ram_start, page_size}
 use Rattle.guest_memory.specs.Reserved.{hart_limit, unreserved, granule_of, held_by, holding, is_granule, slots_after}

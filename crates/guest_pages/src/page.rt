@@ -9,10 +9,9 @@ ghost use Rattle.rv_rows.specs.Loads.{width_bytes};
 ghost use Rattle.guest_pages.specs.Pages.{PageValue, filled, is_within, made_page, page_holding, page_read, page_reserving, page_start, page_touch, page_word, page_written, patched, unmarked};
 
 use crate::word_bytes::{put_word, single_at, word_in};
-use amo_table::amo_value;
 use guest_memory::{
-    HART_LIMIT, PAGE_SIZE, RAM_START, end_written, granule_of, held_by, hold, is_granule, put,
-    width_of, word_at,
+    HART_LIMIT, PAGE_SIZE, RAM_START, amo_value, end_written, granule_of, held_by, hold,
+    is_granule, put, width_of, word_at,
 };
 use rv_rows::Width;
 use std::alloc::{AllocError, Global};

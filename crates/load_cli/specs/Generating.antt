@@ -5,7 +5,7 @@ use Rattle.vm_types.specs.declared.exit.Exit.{Exit}
 use Rattle.vm_types.specs.declared.exit.Object.TheVariants as object
 use Rattle.vm_outside.specs.Known.{Lasts, SinkKnown, Tells}
 use Rattle.vm_outside.specs.Passing.{TakesPart}
-use Rattle.script_output.specs.Output.{last_line}
+use Rattle.responses.specs.Output.{last_line}
 use Rattle.monitor_cli.specs.Command.{IsRefusal}
 use Rattle.monitor_cli.specs.Known.{SinkTold}
 use Rattle.monitor_cli.specs.Taking.{TookText}

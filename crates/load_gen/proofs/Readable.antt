@@ -1,5 +1,5 @@
 -- Each item of the script of a number has a line.
-use Rattle.std.proofs.Common.{◌≡◌, ◌≢◌, ◌<◌, ◌≤◌, ◌+◌, ◌*◌, ◌/◌, ◌%◌, ◌^◌, ℕ, zero, suc, Bool, true, nat_lt, List, [], ◌∷◌, ◌++◌, codes, length, length-append, refl, arith}
+use Rattle.std.proofs.Common.{◌≡◌, ◌<◌, ◌≤◌, ◌+◌, ◌*◌, ◌/◌, ◌%◌, ◌^◌, ℕ, zero, suc, Bool, true, nat_lt, List, [], ◌∷◌, ◌++◌, codes, length, length-append, refl, arith}
 use Rattle.std.proofs.lemmas.Bool.{and_parts}
 use Rattle.std.proofs.lemmas.Bool.Decides.{nat_tests}
 use Rattle.std.proofs.lemmas.Fmt.{length-decimal-le}
@@ -13,10 +13,9 @@ use Rattle.vm_types.specs.declared.ids.ActorId.TheVariants.{Hart}
 use Rattle.script_text.specs.declared.item.Item.{Item}
 use Rattle.script_text.specs.declared.item.Item.TheVariants as item
 use Rattle.script_text.specs.Written.{AreBytes, IsWord, IsWritable, line_of}
+use Rattle.script_text.proofs.Scripts.{decimal_lacks, join}
 use Rattle.script_words.specs.Words.{Lacks}
-use Rattle.script_words.proofs.Decimals.{decimal_digits}
 use Rattle.script_words.proofs.Lacking.{lacks_failing}
-use Rattle.script_words.specs.Numbers.{is_digit}
 use Rattle.load_gen.specs.Load.{boot, configure, create_diff, create_full, image, load_items, opening, pause, put, resume, round, rounds, rounds_of, start, steps_by, turned}
 
 visible : ℕ → Bool
@@ -106,15 +105,9 @@ diff_body i =
     codes "{\"snapshot_type\":\"Diff\",\"snapshot_path\":\"s" ++ decimal i ++ codes "\",\"mem_file_path\":\"d" ++ decimal i
     ++ codes "\"}"
 
-pub join : (a b : List ℕ) → Lacks 10 a → Lacks 10 b → Lacks 10 (a ++ b)
-join a b first second = All-append (λ (d : ℕ). d ≢ 10) a b first second
-
 plain : (text : List ℕ) → list_all visible text ≡ true → Lacks 10 text
 unfolding visible
 plain text all = lacks_failing visible 10 text refl all
-
-pub number_lacks : (i : ℕ) → i < 2 ^ 64 → Lacks 10 (decimal i)
-number_lacks i small = lacks_failing is_digit 10 (decimal i) refl (decimal_digits i small)
 
 five_lack : (a b d e : List ℕ) → Lacks 10 a → Lacks 10 b → Lacks 10 d → Lacks 10 e → Lacks 10 (a ++ b ++ d ++ b ++ e)
 five_lack a b d e la lb ld le =
@@ -124,7 +117,7 @@ body_lacks : (i : ℕ) → i < 2 ^ 64 → Lacks 10 (diff_body i)
 unfolding visible diff_body
 body_lacks i small =
     five_lack (codes "{\"snapshot_type\":\"Diff\",\"snapshot_path\":\"s") (decimal i) (codes "\",\"mem_file_path\":\"d") (codes "\"}")
-    (plain (codes "{\"snapshot_type\":\"Diff\",\"snapshot_path\":\"s") refl) (number_lacks i small)
+    (plain (codes "{\"snapshot_type\":\"Diff\",\"snapshot_path\":\"s") refl) (decimal_lacks i small)
     (plain (codes "\",\"mem_file_path\":\"d") refl) (plain (codes "\"}") refl)
 
 diff_length : (d : List ℕ) → length d ≤ 10

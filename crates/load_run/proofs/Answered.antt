@@ -3,6 +3,7 @@ use Rattle.std.proofs.Common.{◌≡◌, ◌⊎◌, ◌<◌, ℕ, zero, suc, ◌
 use Rattle.std.proofs.Math.Seq.{take-length}
 use Rattle.std.proofs.lemmas.List.{length-drop}
 use Rattle.std.specs.Fmt.{digits}
+use Rattle.std.proofs.lemmas.Bool.{or_right}
 use Rattle.script_text.specs.declared.item.Item.{Item}
 use Rattle.script_text.specs.declared.item.Item.TheVariants as item
 use Rattle.http_stream.specs.Stream.{Connection}
@@ -11,8 +12,8 @@ use Rattle.http_stream.specs.Sent.{sent}
 use Rattle.refusals.specs.declared.refusal.Refusal.{Refusal}
 use Rattle.refusals.specs.declared.refusal.Refusal.TheVariants as refusal
 use Rattle.refusals.specs.Refusals.{fault_text, status_of}
-use Rattle.response_form.specs.declared.form.ResponseForm.TheVariants.{Line}
-use Rattle.response_form.specs.Responses.{Response, all_written, written_as}
+use Rattle.responses.specs.declared.form.ResponseForm.TheVariants.{Line}
+use Rattle.responses.specs.Responses.{Response, all_written, written_as}
 use Rattle.flat_machine.specs.Items.{ItemStep, TalkLines}
 use Rattle.flat_machine.specs.Machine.{Machine}
 use Rattle.flat_machine.specs.Outcome.{AreAnswered, Outcome}
@@ -29,10 +30,6 @@ record Has (text : List ℕ) : Type 0 where
   more : (behind : List ℕ) → begins_failure (failure ++ behind) ≡ true
   parts : text ≡ front ++ failure
 
-or_true : (b : Bool) → (b || true) ≡ true
-or_true true = refl
-or_true false = refl
-
 -- a text with it is not empty
 found_here : (text : List ℕ) → begins_failure text ≡ true → tells_failure text ≡ true
 found_here [] is = is
@@ -41,7 +38,7 @@ found_here (c ∷ text) is = ap (λ (b : Bool). b || tells_failure text) is
 found_at : (front failure : List ℕ) → begins_failure failure ≡ true → tells_failure (front ++ failure) ≡ true
 found_at [] failure is = found_here failure is
 found_at (c ∷ front) failure is =
-    ap (λ (b : Bool). begins_failure (c ∷ front ++ failure) || b) (found_at front failure is) ∙ or_true (begins_failure (c ∷ front ++ failure))
+    ap (λ (b : Bool). begins_failure (c ∷ front ++ failure) || b) (found_at front failure is) ∙ or_right (begins_failure (c ∷ front ++ failure)) true refl
 
 found : (text : List ℕ) → Has text → tells_failure text ≡ true
 found text has = ap tells_failure has.parts ∙ found_at has.front has.failure has.is

@@ -3,8 +3,7 @@ use Rattle.std.proofs.Common.{◌≡◌, ℕ, suc, ◌+◌, sym, ap, ◌∙◌, 
 use Rattle.std.specs.FinMap.{get}
 use Rattle.vm_types.specs.Saved.{Saved}
 use Rattle.refusals.specs.declared.refusal.Refusal.{Refusal}
-use Rattle.vm_outside.specs.Filing.{SameFiles}
-use Rattle.vm_outside.specs.Known.{FilesKnown, Health, Lasts}
+use Rattle.vm_outside.specs.Known.{FilesKnown}
 use Rattle.snap_diff.specs.Found.{diff_found}
 use Rattle.snapshot_merge.specs.Plans.{Plan}
 use Rattle.snapshot_merge.specs.Rebasing.{Merges, Refuses}
@@ -30,13 +29,3 @@ pages_more before pages more saved now was same is =
     let next : suc before ≡ before + 1 = omega arith in
     ap (λ (n : ℕ). n + more) was ∙ ap (λ (n : ℕ). pages_in before saved + n) (is ∙ ap (λ (s : Saved). pages_by (diff_found (get s (diff_name (before + 1))))) same)
     ∙ ap (λ (n : ℕ). pages_in n saved) next
-
-pub lasts_on : (a b d : Health) → Lasts a b → Lasts b d → Lasts a d
-lasts_on a b d first second = record { still = λ told. second.still (first.still told); later = omega (arith, first.later, second.later) }
-
-pub same_on : (a b d : FilesKnown) → SameFiles a b → SameFiles b d → SameFiles a d
-same_on a b d first second = record { saved = second.saved ∙ first.saved; calls = second.calls ∙ first.calls }
-
--- no call was made
-pub lasts_here : (a : Health) → Lasts a a
-lasts_here a = record { still = λ told. told; later = omega arith }

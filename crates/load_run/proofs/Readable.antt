@@ -6,9 +6,10 @@ use Rattle.std.specs.Fmt.{decimal}
 use Rattle.std.specs.List.{All, list_all}
 use Rattle.script_text.specs.declared.item.Item.{Item}
 use Rattle.script_text.specs.Written.{IsWord, IsWritable}
+use Rattle.script_text.proofs.Scripts.{decimal_lacks, join}
 use Rattle.script_words.specs.Words.{Lacks}
 use Rattle.script_words.proofs.Lacking.{lacks_failing}
-use Rattle.load_gen.proofs.Readable.{join, number_lacks, put_word, request}
+use Rattle.load_gen.proofs.Readable.{put_word, request}
 use Rattle.load_run.specs.Restoring.{load_last, restore_script}
 
 abbrev load_body : ℕ → List ℕ
@@ -31,7 +32,7 @@ load_word = record {
 body_lacks : (i : ℕ) → i < 2 ^ 64 → Lacks 10 (load_body i)
 body_lacks i small =
     join (codes "{\"snapshot_path\":\"s" ++ decimal i) (codes "\",\"mem_file_path\":\"m0\"}")
-    (join (codes "{\"snapshot_path\":\"s") (decimal i) (one_line (codes "{\"snapshot_path\":\"s") refl) (number_lacks i small))
+    (join (codes "{\"snapshot_path\":\"s") (decimal i) (one_line (codes "{\"snapshot_path\":\"s") refl) (decimal_lacks i small))
     (one_line (codes "\",\"mem_file_path\":\"m0\"}") refl)
 
 load_length : (d : List ℕ) → length d ≤ 10

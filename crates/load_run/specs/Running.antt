@@ -7,7 +7,7 @@ use Rattle.vm_types.specs.declared.exit.Object.TheVariants as object
 use Rattle.vm_outside.specs.Calls.{FileCall}
 use Rattle.vm_outside.specs.Known.{FilesKnown, Lasts, SinkKnown, Tells}
 use Rattle.vm_outside.specs.Passing.{TakesPart}
-use Rattle.script_output.specs.Output.{last_line}
+use Rattle.responses.specs.Output.{last_line}
 use Rattle.command_line.specs.Commands.{run_number}
 use Rattle.command_line.specs.MachineId.{default_id}
 use Rattle.flat_machine.specs.Machine.{Machine, is_off, new_machine}

@@ -10,10 +10,9 @@ mod given;
 
 use crate::instructions::given::{Given, given_from};
 use crate::words::{push_number, push_shown};
-use amo_table::amo_value;
-use rv_alu::{atomic_load_value, load_value};
+use guest_memory::amo_value;
+use rv_alu::{atomic_load_value, effect, load_value};
 use rv_decode::decode;
-use rv_effect::effect;
 use rv_rows::{CsrAccess, Effect, Instr, instr_of};
 use rv_supervisor::{
     Csr, HartCsr, Turn, access_csr, csr_of, csr_value, software_cleared, software_set, start_regs,

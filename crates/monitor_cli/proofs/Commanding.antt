@@ -1,6 +1,6 @@
 -- From a replay before its last line to what a command owes.
 use Rattle.std.specs.Prelude.{IfErr, OnOk}
-use Rattle.std.proofs.Common.{◌≡◌, ◌≢◌, is_some, zero, suc, ◌+◌, inl, inr, ◌⊎◌, Result, Ok, Err, ℕ, Bool, true, false, true≢false, unwrap_or, refl, sym, ap, subst, ◌∙◌, List, [], ◌∷◌, ◌++◌, map, Option, Some, None, arith}
+use Rattle.std.proofs.Common.{◌≡◌, ◌≢◌, is_some, zero, suc, ◌+◌, inl, inr, ◌⊎◌, Result, Ok, Err, ℕ, true≢false, unwrap_or, refl, sym, ap, subst, ◌∙◌, List, [], ◌∷◌, ◌++◌, map, Option, Some, None, arith}
 use Rattle.std.proofs.lemmas.List.{append-nil}
 use Rattle.vm_types.specs.Causes.{Rose, RoseBy}
 use Rattle.vm_types.specs.declared.exit.Exit.{Exit}
@@ -8,7 +8,8 @@ use Rattle.vm_types.specs.declared.exit.Object.TheVariants as object
 use Rattle.script_text.specs.declared.item.Item.{Item}
 use Rattle.vm_outside.specs.Known.{Called, FilesKnown, SinkKnown, SourceKnown, Tells}
 use Rattle.vm_outside.specs.Passing.{TakesAll}
-use Rattle.script_output.specs.Output.{last_line}
+use Rattle.vm_outside.proofs.Passing.{lasts_more}
+use Rattle.responses.specs.Output.{last_line}
 use Rattle.command_line.specs.Commands.{replay_id}
 use Rattle.command_line.specs.declared.parsing.NoCommand.{NoCommand}
 use Rattle.flat_machine.specs.Machine.{AreFilesOf, Machine, new_machine}
@@ -23,9 +24,9 @@ use Rattle.monitor_cli.specs.Counting.{Counted}
 use Rattle.monitor_cli.specs.Known.{AllLast, AllTell, Caused, CausedSoFar, Known, NoneRose, SinkCause}
 use Rattle.monitor_cli.specs.Lines.{BeforeLast, IsRunsEnd}
 use Rattle.monitor_cli.specs.Replay.{Replayed, Went}
-use Rattle.monitor_cli.specs.Taking.{IsQuiet, TookText}
+use Rattle.monitor_cli.specs.Taking.{IsQuiet}
 use Rattle.monitor_cli.specs.declared.no_words.NoWords.{NoWords}
-use Rattle.monitor_cli.proofs.Counts.{lasts_more, sink_told}
+use Rattle.monitor_cli.proofs.Counts.{sink_told}
 use Rattle.monitor_cli.proofs.Halting.{not_inside}
 use Rattle.monitor_cli.proofs.Parts.{told_text}
 

@@ -1,10 +1,9 @@
 -- Counts of faults that rise one after another, and causes by how a replay ended.
 use Rattle.std.proofs.Common.{◌≡◌, ℕ, ◌+◌, ◌≤◌, ◌∙◌, arith}
-use Rattle.std.proofs.Math.Nat.{le_refl}
 use Rattle.vm_types.specs.Causes.{Rose, RoseBy}
 use Rattle.vm_types.specs.declared.exit.Exit.{Exit}
 use Rattle.vm_types.specs.declared.exit.Object.TheVariants as object
-use Rattle.vm_outside.specs.Known.{Health, Lasts}
+use Rattle.vm_outside.proofs.Passing.{rose_later}
 use Rattle.monitor_cli.specs.Answering.{IsClosing}
 use Rattle.monitor_cli.specs.Known.{FilesCause, IsReplayEnd, SinkCause, SinkTold, SourceCause}
 use Rattle.monitor_cli.specs.Lines.{IsLinesEnd, IsRunsEnd}
@@ -21,18 +20,6 @@ none_more n i j rose = omega (arith, rose)
 
 pub one_of_more : (n i j : ℕ) → RoseBy (n + 1) i j → Rose i j
 one_of_more n i j rose = omega (arith, rose)
-
-pub later_rose : (i mid j : ℕ) → i ≤ mid → Rose mid j → Rose i j
-later_rose i mid j later rose = omega (arith, later, rose)
-
-pub rose_later : (i mid j : ℕ) → Rose i mid → mid ≤ j → Rose i j
-rose_later i mid j rose later = omega (arith, later, rose)
-
-pub lasts_same : (h : Health) → Lasts h h
-lasts_same h = record { still = λ t. t; later = le_refl h.faults }
-
-pub lasts_more : (a b c : Health) → Lasts a b → Lasts b c → Lasts a c
-lasts_more a b c first second = record { still = λ t. second.still (first.still t); later = omega (arith, first.later, second.later) }
 
 -- what a call on another object means for each way to end
 pub source_stays : (exit : Exit) (i j : ℕ) → IsLinesEnd exit → j ≡ i → SourceCause exit i j

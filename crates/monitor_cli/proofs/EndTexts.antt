@@ -2,7 +2,7 @@
 use Rattle.std.proofs.Common.{◌≡◌, ℕ, Bool, true, false, if◌then◌else◌, sym, ap, ◌∙◌, List, [], ◌++◌}
 use Rattle.std.proofs.lemmas.List.{append-nil}
 use Rattle.vm_types.specs.declared.exit.Exit.{Exit}
-use Rattle.script_output.specs.Output.{console_line, off_line}
+use Rattle.responses.specs.Output.{console_line, off_line}
 use Rattle.flat_machine.specs.Machine.{Machine, console_of, is_off}
 use Rattle.flat_machine.specs.Replay.{closing}
 

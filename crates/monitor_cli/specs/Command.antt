@@ -3,7 +3,7 @@ use Rattle.std.specs.Prelude.{◌≡◌, ◌⊎◌, ℕ, true, false, List, map,
 use Rattle.vm_types.specs.declared.exit.Exit.{Exit}
 use Rattle.script_text.specs.declared.item.Item.{Item}
 use Rattle.vm_outside.specs.Known.{Tells}
-use Rattle.script_output.specs.Output.{last_line}
+use Rattle.responses.specs.Output.{last_line}
 use Rattle.command_line.specs.Commands.{is_replay, replay_id}
 use Rattle.command_line.specs.declared.parsing.NoCommand.{NoCommand}
 use Rattle.flat_machine.specs.Machine.{new_machine}

@@ -5,7 +5,7 @@ use Rattle.vm_types.specs.declared.exit.Exit.{Exit}
 use Rattle.vm_types.specs.declared.exit.Object.TheVariants as object
 use Rattle.vm_outside.specs.Known.{FilesKnown, SinkKnown, SourceKnown, Tells}
 use Rattle.script_text.specs.Lines.{judged}
-use Rattle.script_output.specs.Output.{last_line}
+use Rattle.responses.specs.Output.{last_line}
 use Rattle.flat_machine.specs.Machine.{Machine, is_off}
 use Rattle.flat_machine.specs.Outcome.{Outcome}
 use Rattle.flat_machine.specs.Replay.{longest_script}

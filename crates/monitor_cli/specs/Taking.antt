@@ -4,7 +4,7 @@ use Rattle.vm_types.specs.Causes.{Rose}
 use Rattle.vm_types.specs.declared.exit.Exit.{Exit}
 use Rattle.vm_types.specs.declared.exit.Object.TheVariants as object
 use Rattle.vm_outside.specs.Known.{SinkKnown}
-use Rattle.script_output.specs.Output.{last_line}
+use Rattle.responses.specs.Output.{last_line}
 
 -- a front of it, and not all
 pub record TookFront (text before taken : List ℕ) : Type 0 where

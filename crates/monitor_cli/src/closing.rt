@@ -8,7 +8,7 @@ ghost use Rattle.monitor_cli.specs.Answering.{ClosesBy, IsClosing};
 ghost use Rattle.monitor_cli.specs.Known.{SinkCause};
 
 use monitor_core::Monitor;
-use script_output::console_line;
+use responses::console_line;
 use std::alloc::{AllocError, Global};
 use vm_outside::{Failed, Sink, write_all};
 use vm_types::{ByteList, Exit, Object};

@@ -4,7 +4,7 @@ use Rattle.vm_outside.specs.Known.{FilesKnown}
 use Rattle.http_stream.specs.Conversation.{new_connection}
 use Rattle.http_stream.specs.Stream.{Connection}
 use Rattle.flat_machine.specs.Machine.{Machine}
-use Rattle.response_form.specs.declared.form.ResponseForm.TheVariants.{Http}
+use Rattle.responses.specs.declared.form.ResponseForm.TheVariants.{Http}
 use Rattle.monitor_core.specs.declared.monitor.Monitor.{Monitor}
 use Rattle.monitor_core.specs.Hearing.{HearGoes}
 use Rattle.monitor_core.specs.State.{IsMonitor}

@@ -16,13 +16,13 @@ use Rattle.http_stream.specs.Sent.{sent}
 use Rattle.http_stream.specs.Conversation.{arrived, new_connection, Conversation, ConversationFront}
 use Rattle.script_text.specs.declared.item.HostReply.{HostReply}
 use Rattle.script_text.specs.declared.item.Item.{Item}
-use Rattle.script_output.specs.Output.{console_line}
+use Rattle.responses.specs.Output.{console_line}
 use Rattle.flat_machine.specs.Outcome as flat
 use Rattle.flat_machine.specs.Machine.{AreFilesOf, Machine, console_of, drained, running}
 use Rattle.flat_machine.specs.Given.{reply_given}
 use Rattle.flat_machine.specs.Items.{FrontLines, ItemStep, RepliesLine, StepsLine, TalkLines, Talks, TalksFront, bytes_of}
-use Rattle.response_form.specs.declared.form.ResponseForm.{ResponseForm}
-use Rattle.response_form.specs.declared.form.ResponseForm.TheVariants.{Line}
+use Rattle.responses.specs.declared.form.ResponseForm.{ResponseForm}
+use Rattle.responses.specs.declared.form.ResponseForm.TheVariants.{Line}
 use Rattle.flat_machine.specs.Requests.{RequestStep}
 use Rattle.monitor_machine.specs.declared.machine.LiveMachine.{LiveMachine}
 use Rattle.monitor_machine.specs.State.{IsMachine}

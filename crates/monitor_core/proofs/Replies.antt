@@ -4,7 +4,7 @@ use Rattle.vm_outside.specs.Known.{FilesKnown}
 use Rattle.http_stream.specs.declared.request.Next.{Next}
 use Rattle.http_stream.specs.Stream.{Connection}
 use Rattle.http_stream.specs.Conversation.{Takes}
-use Rattle.response_form.specs.declared.form.ResponseForm.{ResponseForm}
+use Rattle.responses.specs.declared.form.ResponseForm.{ResponseForm}
 use Rattle.monitor_machine.specs.declared.machine.LiveMachine.{LiveMachine}
 use Rattle.monitor_machine.specs.declared.outcome.Outcome.{Outcome}
 use Rattle.monitor_machine.specs.Replying.{Replies}

@@ -13,8 +13,8 @@ use Rattle.http_stream.proofs.CutLemmas.{made, bad_failed, request_falls, reques
 use Rattle.http_stream.proofs.AnswerLemmas.{some_reading}
 use Rattle.flat_machine.specs.Outcome as flat
 use Rattle.flat_machine.specs.Requests.{RequestStep}
-use Rattle.response_form.specs.declared.form.ResponseForm.{ResponseForm}
-use Rattle.response_form.specs.Responses.{Response, all_written, written_as}
+use Rattle.responses.specs.declared.form.ResponseForm.{ResponseForm}
+use Rattle.responses.specs.Responses.{Response, all_written, written_as}
 use Rattle.monitor_core.specs.declared.monitor.Monitor.{Monitor}
 use Rattle.monitor_machine.specs.declared.outcome.Outcome.{Outcome}
 use Rattle.monitor_machine.specs.declared.outcome.Outcome.TheVariants.{Answered, Failed, NoMemory}

@@ -5,8 +5,8 @@ use Rattle.http_stream.specs.Conversation.{arrived}
 use Rattle.flat_machine.specs.Outcome.{Outcome}
 use Rattle.flat_machine.specs.Items.{Talks}
 use Rattle.flat_machine.specs.Machine.{Machine}
-use Rattle.response_form.specs.declared.form.ResponseForm.TheVariants.{Http}
-use Rattle.response_form.specs.Responses.{Response, all_written}
+use Rattle.responses.specs.declared.form.ResponseForm.TheVariants.{Http}
+use Rattle.responses.specs.Responses.{Response, all_written}
 use Rattle.monitor_core.specs.declared.monitor.Monitor.{Monitor}
 use Rattle.monitor_core.specs.Going.{CountsFaults, Gave, GivesFiling}
 use Rattle.monitor_core.specs.State.{IsMonitor}

@@ -5,7 +5,7 @@ use Rattle.http_stream.specs.declared.request.Next.{Next}
 use Rattle.http_stream.specs.Conversation.{Takes, IsQuiet}
 use Rattle.monitor_machine.specs.declared.outcome.Outcome.{Outcome}
 use Rattle.monitor_machine.specs.Replying.{Replies}
-use Rattle.response_form.specs.declared.form.ResponseForm.{ResponseForm}
+use Rattle.responses.specs.declared.form.ResponseForm.{ResponseForm}
 use Rattle.monitor_core.specs.declared.monitor.Monitor.{Monitor}
 use Rattle.monitor_core.specs.Going.{GivesFiling}
 

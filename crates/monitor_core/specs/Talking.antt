@@ -8,8 +8,8 @@ use Rattle.http_stream.specs.Conversation.{Takes, IsQuiet, arrived}
 use Rattle.flat_machine.specs.Outcome.{Outcome}
 use Rattle.flat_machine.specs.Machine.{Machine}
 use Rattle.flat_machine.specs.Requests.{RequestStep}
-use Rattle.response_form.specs.declared.form.ResponseForm.{ResponseForm}
-use Rattle.response_form.specs.Responses.{Response, all_written}
+use Rattle.responses.specs.declared.form.ResponseForm.{ResponseForm}
+use Rattle.responses.specs.Responses.{Response, all_written}
 use Rattle.monitor_core.specs.declared.monitor.Monitor.{Monitor}
 use Rattle.monitor_core.specs.Going.{CountsFaults, GivesFiling}
 use Rattle.monitor_core.specs.State.{IsBeside}

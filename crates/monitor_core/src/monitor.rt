@@ -7,7 +7,7 @@ use crate::item_error::ItemError;
 use gate_file::save_file;
 use http_front::Front;
 use monitor_machine::LiveMachine;
-use response_form::ResponseForm;
+use responses::ResponseForm;
 use script_text::Item;
 use std::alloc::{AllocError, Global};
 use vm_outside::{Failed, Files};

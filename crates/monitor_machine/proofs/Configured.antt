@@ -32,7 +32,7 @@ mark_configured config paused (Some g) is = record {
       source = is.ready.configured.source;
       drives = is.ready.configured.drives;
       interfaces = is.ready.configured.interfaces;
-<<<<<<< f4895c43
+<<<<<<< 8bde38ab
       vsock = is.ready.configured.vsock;
       mmds = is.ready.configured.mmds;
 =======
@@ -55,7 +55,7 @@ config_guest : (it : Change) (config : Config) (paused : Bool) (w : Option World
 config_guest (change.BootSource source) config paused w guest taken here early is = not_yet _ paused guest (no_guest w guest here early)
 config_guest (change.PutDrive drive) config paused w guest taken here early is = not_yet _ paused guest (no_guest w guest here early)
 config_guest (change.MachineConfig machine) config paused w guest taken here early is = not_yet _ paused guest (no_guest w guest here early)
-<<<<<<< f4895c43
+<<<<<<< 8bde38ab
 config_guest (change.PutVsock vsock) config paused w guest taken here early is = not_yet _ paused guest (no_guest w guest here early)
 =======
 >>>>>>> m
@@ -65,7 +65,7 @@ config_guest (change.PutInterface interface) config paused w guest taken here ea
 config_guest (change.PatchInterface patch) config paused w guest taken here early is = interface_patched config patch paused guest taken is
 config_guest (change.PatchBalloon patch) config paused w guest taken here early is = amount_patched config patch paused guest taken is
 config_guest (change.PatchStatistics patch) config paused w guest taken here early is = interval_patched config patch paused guest taken is
-<<<<<<< f4895c43
+<<<<<<< 8bde38ab
 config_guest (change.MmdsConfig mmds) config paused w guest taken here early is = not_yet _ paused guest (no_guest w guest here early)
 =======
 >>>>>>> m
@@ -116,7 +116,7 @@ pub stays_early : (it : Change) (paused : Bool) (w : Option WorldValue) → IsEa
 stays_early (change.BootSource source) paused w early = early
 stays_early (change.PutDrive drive) paused w early = early
 stays_early (change.MachineConfig machine) paused w early = early
-<<<<<<< f4895c43
+<<<<<<< 8bde38ab
 stays_early (change.PutVsock vsock) paused w early = early
 =======
 >>>>>>> m
@@ -126,7 +126,7 @@ stays_early (change.PutInterface interface) paused w early = early
 stays_early (change.PatchInterface patch) paused w early = tt
 stays_early (change.PatchBalloon patch) paused w early = tt
 stays_early (change.PatchStatistics patch) paused w early = tt
-<<<<<<< f4895c43
+<<<<<<< 8bde38ab
 stays_early (change.MmdsConfig mmds) paused w early = early
 =======
 >>>>>>> m
@@ -143,7 +143,7 @@ pub told_early : (it : Change) (config : Config) (w v : Option WorldValue) → T
 told_early (change.BootSource source) config w v tells early = tells ∙ early
 told_early (change.PutDrive drive) config w v tells early = tells ∙ early
 told_early (change.MachineConfig machine) config w v tells early = tells ∙ early
-<<<<<<< f4895c43
+<<<<<<< 8bde38ab
 told_early (change.PutVsock vsock) config w v tells early = tells ∙ early
 =======
 >>>>>>> m
@@ -153,7 +153,7 @@ told_early (change.PutInterface interface) config w v tells early = tells ∙ ea
 told_early (change.PatchInterface patch) config w v tells early = tt
 told_early (change.PatchBalloon patch) config w v tells early = tt
 told_early (change.PatchStatistics patch) config w v tells early = tt
-<<<<<<< f4895c43
+<<<<<<< 8bde38ab
 told_early (change.MmdsConfig mmds) config w v tells early = tells ∙ early
 =======
 >>>>>>> m
@@ -209,7 +209,7 @@ taken_of : (live : Live) → IsReadyLive live → IsTaken live.config
 taken_of live (m, own, ready) = subst (λ (c : Config). IsTaken c) (sym own.config_is) ready.taken
 
 -- other drives
-<<<<<<< f4895c43
+<<<<<<< 8bde38ab
 pub drives_stay : (live : Live) (drives : List Drive) → AreFitting drives live.config.interfaces live.config.vsock live.config.balloon → live.guest ≡ None
 =======
 pub drives_stay : (live : Live) (drives : List Drive) → AreFitting drives live.config.interfaces live.config.balloon → live.guest ≡ None
@@ -222,7 +222,7 @@ drives_stay live drives fit none is =
       source = taken.source;
       drives = fit.0;
       interfaces = taken.interfaces;
-<<<<<<< f4895c43
+<<<<<<< 8bde38ab
       vsock = taken.vsock;
       mmds = taken.mmds;
 =======
@@ -234,7 +234,7 @@ drives_stay live drives fit none is =
     none is
 
 -- other interfaces
-<<<<<<< f4895c43
+<<<<<<< 8bde38ab
 pub interfaces_stay : (live : Live) (interfaces : List Interface)
     → AreLinked live.config.drives interfaces live.config.vsock live.config.balloon live.config.mmds
 =======
@@ -249,7 +249,7 @@ interfaces_stay live interfaces fit none is =
       source = taken.source;
       drives = taken.drives;
       interfaces = fit.0;
-<<<<<<< f4895c43
+<<<<<<< 8bde38ab
       vsock = taken.vsock;
       mmds = fit.2;
 =======

@@ -23,8 +23,8 @@ use Rattle.vm_config.specs.declared.change.Change.TheVariants as change
 use Rattle.api_rules.specs.declared.ids.Ids.{Ids}
 use Rattle.api_rules.specs.Answers.{no_content, refused}
 use Rattle.api_rules.specs.Ids.{based, spent}
-use Rattle.response_form.specs.declared.form.ResponseForm.{ResponseForm}
-use Rattle.response_form.specs.Responses.{Response, written_as}
+use Rattle.responses.specs.declared.form.ResponseForm.{ResponseForm}
+use Rattle.responses.specs.Responses.{Response, written_as}
 use Rattle.guest_memory.specs.Memory.{Memory}
 use Rattle.guest_pages.specs.Pages.{flat_of}
 use Rattle.guest_devices.specs.declared.device.Device.{Device}
@@ -50,7 +50,7 @@ use Rattle.monitor_plans.specs.declared.plan.Task.TheVariants as task
 use Rattle.create_end.specs.Saved.{IsSavedWorld}
 use Rattle.monitor_machine.specs.declared.machine.LiveMachine.{LiveMachine}
 use Rattle.monitor_machine.specs.declared.outcome.Outcome.{Outcome}
-<<<<<<< f4895c43
+<<<<<<< 8bde38ab
 use Rattle.monitor_machine.specs.Plans.{IsCreate, IsCreated, IsTask, TaskKeepsReady, failed_after, told_of}
 use Rattle.monitor_machine.specs.Replying.{Replies, open_response}
 use Rattle.monitor_machine.specs.State.{IsGuestBy, IsMachine}
@@ -215,7 +215,7 @@ module _ (c : Creation) (live : LiveMachine) (w : WorldValue) (known left : File
   saved_is after left =
       world_saved w after.guest due.guest here (subst (λ (o : Option WorldValue). IsSavedWorld o after.guest) there left.0)
 
-<<<<<<< f4895c43
+<<<<<<< 8bde38ab
   pub create_does : (after : LiveMachine) → IsCreated c live after → TellsOwn live
       → writes.Creates c.names.mem_file_path c.head (written_of c w) c.names.snapshot_path c.body known left
       → RequestStep (flat.Outcome.Answered kept) given m (respond given no_content) end × IsMachine after left end
@@ -370,7 +370,7 @@ module _ (form : ResponseForm) (c : Creation) (live after : LiveMachine) (w : Wo
   alone : (response : Response) → written ≡ text ++ written_as form response → written ≡ text ++ (written_as form response ++ [])
   alone response is = is ∙ ap (λ (l : List ℕ). text ++ l) (sym (append-nil (written_as form response)))
 
-<<<<<<< f4895c43
+<<<<<<< 8bde38ab
   pub is_written : TellsOwn live → IsCreated c live after → written ≡ text ++ written_as form (open_response no_content) → left.health.faults ≡ known.health.faults
 =======
   pub is_written : TellsOwn live → after ≡ created_after c live → written ≡ text ++ written_as form (open_response no_content) → left.health.faults ≡ known.health.faults
@@ -385,7 +385,7 @@ module _ (form : ResponseForm) (c : Creation) (live after : LiveMachine) (w : Wo
     responses = respond given no_content;
     writes = alone (open_response no_content) writes;
     went = λ told m is.
-<<<<<<< f4895c43
+<<<<<<< 8bde38ab
         let does = create_does c live w known left m given kept there is (due told m is) after leaves tells (wrote told) in
         (end c live w known left m given kept there is (due told m is), does.0, does.1);
 =======

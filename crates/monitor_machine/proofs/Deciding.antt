@@ -75,7 +75,7 @@ two_files p config ids it c is request asks = subst HasTwoFiles (change_is p con
     by_call (call.PatchInterface patch) asks = tt
     by_call (call.PutMachineConfig machine) asks = tt
     by_call (call.PatchMachineConfig patch) asks = tt
-<<<<<<< f4895c43
+<<<<<<< 8bde38ab
     by_call (call.PutVsock vsock) asks = tt
     by_call (call.PutBalloon balloon) asks = tt
     by_call (call.PatchBalloon patch) asks = tt
@@ -112,7 +112,7 @@ has_guest guest paused config ids it c is = subst (λ (x : Change). HasGuest x g
     by_call (call.PatchInterface patch) is = tt
     by_call (call.PutMachineConfig machine) is = tt
     by_call (call.PatchMachineConfig patch) is = tt
-<<<<<<< f4895c43
+<<<<<<< 8bde38ab
     by_call (call.PutVsock vsock) is = tt
     by_call (call.PutBalloon balloon) is = tt
     by_call (call.PatchBalloon patch) is = tt
@@ -153,7 +153,7 @@ module _ (guest : Option WorldValue) (paused : Bool) (config : Config) (ids : Id
   early_by (call.PatchInterface patch) is = tt
   early_by (call.PutMachineConfig machine) is = not_started guest is
   early_by (call.PatchMachineConfig patch) is = not_started guest is
-<<<<<<< f4895c43
+<<<<<<< 8bde38ab
   early_by (call.PutVsock vsock) is = not_started guest is
   early_by (call.PutBalloon balloon) is = not_started guest is
   early_by (call.PatchBalloon patch) is = tt
@@ -186,7 +186,7 @@ module _ (guest : Option WorldValue) (paused : Bool) (config : Config) (ids : Id
   number_by (call.PatchInterface patch) is = tt
   number_by (call.PutMachineConfig machine) is = tt
   number_by (call.PatchMachineConfig patch) is = tt
-<<<<<<< f4895c43
+<<<<<<< 8bde38ab
   number_by (call.PutVsock vsock) is = tt
   number_by (call.PutBalloon balloon) is = tt
   number_by (call.PatchBalloon patch) is = tt
@@ -234,7 +234,7 @@ no_files p config ids it c is never = ap needs_files (sym (change_is p config id
     by_call (call.PatchInterface patch) never = refl
     by_call (call.PutMachineConfig machine) never = refl
     by_call (call.PatchMachineConfig patch) never = refl
-<<<<<<< f4895c43
+<<<<<<< 8bde38ab
     by_call (call.PutVsock vsock) never = refl
     by_call (call.PutBalloon balloon) never = refl
     by_call (call.PatchBalloon patch) never = refl

@@ -106,7 +106,7 @@ left_is (change.PatchDrive patch) paused w g is = is
 left_is (change.PutInterface interface) paused w g is = is
 left_is (change.PatchInterface patch) paused w g is = is
 left_is (change.MachineConfig machine) paused w g is = is
-<<<<<<< f4895c43
+<<<<<<< 8bde38ab
 left_is (change.PutVsock vsock) paused w g is = is
 left_is (change.PutBalloon balloon) paused w g is = is
 left_is (change.PatchBalloon patch) paused w g is = is
@@ -145,7 +145,7 @@ plain_leaves m (change.PatchDrive patch) plain =
 plain_leaves m (change.PutInterface interface) plain = cc
 plain_leaves m (change.PatchInterface patch) plain = (refl, refl)
 plain_leaves m (change.MachineConfig machine) plain = (refl, refl)
-<<<<<<< f4895c43
+<<<<<<< 8bde38ab
 plain_leaves m (change.PutVsock vsock) plain = (refl, refl)
 plain_leaves m (change.PutBalloon balloon) plain = (refl, refl)
 plain_leaves m (change.PatchBalloon patch) plain = (refl, refl)
@@ -173,7 +173,7 @@ plain_free (change.PatchDrive patch) plain = refl
 plain_free (change.PutInterface interface) plain = cc
 plain_free (change.PatchInterface patch) plain = refl
 plain_free (change.MachineConfig machine) plain = refl
-<<<<<<< f4895c43
+<<<<<<< 8bde38ab
 plain_free (change.PutVsock vsock) plain = refl
 plain_free (change.PutBalloon balloon) plain = refl
 plain_free (change.PatchBalloon patch) plain = refl
@@ -233,7 +233,7 @@ keeps (change.PatchDrive patch) m told kept is = absurd is
 keeps (change.PutInterface interface) m told kept is = absurd is
 keeps (change.PatchInterface patch) m told kept is = absurd is
 keeps (change.MachineConfig machine) m told kept is = absurd is
-<<<<<<< f4895c43
+<<<<<<< 8bde38ab
 keeps (change.PutVsock vsock) m told kept is = absurd is
 keeps (change.PutBalloon balloon) m told kept is = absurd is
 keeps (change.MmdsConfig mmds) m told kept is = absurd is
@@ -262,7 +262,7 @@ fails_alone (change.PatchDrive patch) m reads =
 fails_alone (change.PutInterface interface) m reads = cc
 fails_alone (change.PatchInterface patch) m reads = cc
 fails_alone (change.MachineConfig machine) m reads = cc
-<<<<<<< f4895c43
+<<<<<<< 8bde38ab
 fails_alone (change.PutVsock vsock) m reads = cc
 fails_alone (change.PutBalloon balloon) m reads = cc
 fails_alone (change.PatchBalloon patch) m reads = cc

@@ -53,7 +53,7 @@ plain_change m (change.PatchDrive patch) plain =
 plain_change m (change.PutInterface interface) plain = cc
 plain_change m (change.PatchInterface patch) plain = refl
 plain_change m (change.MachineConfig machine) plain = refl
-<<<<<<< f4895c43
+<<<<<<< 8bde38ab
 plain_change m (change.PutVsock vsock) plain = refl
 plain_change m (change.PutBalloon balloon) plain = refl
 plain_change m (change.PatchBalloon patch) plain = refl
@@ -87,7 +87,7 @@ plain_left (change.PatchDrive patch) drives files nets puts patches starts creat
 plain_left (change.PutInterface interface) drives files nets puts patches starts creates loads = absurd (nets interface refl)
 plain_left (change.PatchInterface patch) drives files nets puts patches starts creates loads = refl
 plain_left (change.MachineConfig machine) drives files nets puts patches starts creates loads = refl
-<<<<<<< f4895c43
+<<<<<<< 8bde38ab
 plain_left (change.PutVsock vsock) drives files nets puts patches starts creates loads = refl
 plain_left (change.PutBalloon balloon) drives files nets puts patches starts creates loads = refl
 plain_left (change.PatchBalloon patch) drives files nets puts patches starts creates loads = refl

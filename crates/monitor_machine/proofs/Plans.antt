@@ -7,8 +7,8 @@ use Rattle.vm_outside.specs.Filing.{SameFiles}
 use Rattle.vm_outside.specs.Known.{FilesKnown, Lasts, Tells}
 use Rattle.flat_machine.specs.Machine.{Machine}
 use Rattle.flat_machine.specs.Requests.{RequestStep, closes, respond}
-use Rattle.response_form.specs.declared.form.ResponseForm.{ResponseForm}
-use Rattle.response_form.specs.Responses.{written_as}
+use Rattle.responses.specs.declared.form.ResponseForm.{ResponseForm}
+use Rattle.responses.specs.Responses.{written_as}
 use Rattle.monitor_plans.specs.declared.plan.Plan.{Plan}
 use Rattle.monitor_plans.specs.declared.plan.Plan.TheVariants as plan
 use Rattle.monitor_plans.specs.Plans.{PlanCause}

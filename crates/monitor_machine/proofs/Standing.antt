@@ -1,7 +1,11 @@
 -- A live machine that is ready stays so, whatever becomes of its guest, its configuration and its numbers.
 use Rattle.std.proofs.Common.{◌≡◌, ◌≤◌, ◌<◌, ◌^◌, ◌+◌, ◌==◌, ◌&&◌, nat_lt, ℕ, Bool, true, false, refl, sym, ap, subst, ◌∙◌, List, [], Option, Some, None, Result, Ok, Err, slice_get, arith}
 use Rattle.std.specs.Prelude.{IfErr, IfOk, IfSome, IsTrue}
+<<<<<<< 8bde38ab
+use Rattle.std.proofs.lemmas.Bool.{and_from, and_right, eqb-true, lt-ltb}
+=======
 use Rattle.std.proofs.lemmas.Bool.{and_from, eqb-true, lt-ltb}
+>>>>>>> m
 use Rattle.serde_json.specs.Data.{Data, null}
 use Rattle.file_format.specs.Identities.{is_numbered}
 use Rattle.vm_types.specs.declared.identity.Identity.{Identity}
@@ -206,7 +210,7 @@ told_stays live (change.BootSource source) after tells it = same_stays live afte
 told_stays live (change.PutDrive drive) after tells it = same_stays live after (sym tells) it
 told_stays live (change.PutInterface interface) after tells it = same_stays live after (sym tells) it
 told_stays live (change.MachineConfig machine) after tells it = same_stays live after (sym tells) it
-<<<<<<< f4895c43
+<<<<<<< 8bde38ab
 told_stays live (change.PutVsock vsock) after tells it = same_stays live after (sym tells) it
 told_stays live (change.PutBalloon balloon) after tells it = same_stays live after (sym tells) it
 told_stays live (change.MmdsConfig mmds) after tells it = same_stays live after (sym tells) it
@@ -250,7 +254,7 @@ stand_guest (change.PatchDrive patch) paused config guest is = (guest, λ w here
 stand_guest (change.PutInterface interface) paused config guest is = (guest, λ w here. here, is)
 stand_guest (change.PatchInterface patch) paused config guest is = (guest, λ w here. here, is)
 stand_guest (change.MachineConfig machine) paused config guest is = (guest, λ w here. here, is)
-<<<<<<< f4895c43
+<<<<<<< 8bde38ab
 stand_guest (change.PutVsock vsock) paused config guest is = (guest, λ w here. here, is)
 stand_guest (change.PutBalloon balloon) paused config guest is = (guest, λ w here. here, is)
 stand_guest (change.PatchBalloon patch) paused config guest is = (guest, λ w here. here, is)
@@ -464,16 +468,12 @@ lineage_stays live lineage (m, own, ready) = (
 
 -- ---- what a create may ask of it
 
-no_right : (b : Bool) → (b && false) ≡ false
-no_right true = refl
-no_right false = refl
-
 below : (b : Bool) (a n : ℕ) → a < n → (b && (a == n)) ≡ false
 below b a n less = by_test (a == n) refl
   where
     by_test : (t : Bool) → (a == n) ≡ t → (b && (a == n)) ≡ false
     by_test true is = let same = eqb-true a n is in absurd (omega (arith, same, less))
-    by_test false is = ap (λ (t : Bool). b && t) is ∙ no_right b
+    by_test false is = ap (λ (t : Bool). b && t) is ∙ and_right b false refl
 
 is_number : (i : Identity) → 1 ≤ i.number → i.number < 2 ^ 63 → IsTrue (is_numbered i)
 is_number i first small =

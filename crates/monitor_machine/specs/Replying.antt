@@ -11,8 +11,8 @@ use Rattle.guest_devices.specs.declared.device.Device.{Device}
 use Rattle.flat_machine.specs.Outcome as flat
 use Rattle.flat_machine.specs.Machine.{Machine}
 use Rattle.flat_machine.specs.Requests.{RequestStep}
-use Rattle.response_form.specs.declared.form.ResponseForm.{ResponseForm}
-use Rattle.response_form.specs.Responses.{Response, all_written}
+use Rattle.responses.specs.declared.form.ResponseForm.{ResponseForm}
+use Rattle.responses.specs.Responses.{Response, all_written}
 use Rattle.api_rules.specs.declared.answer.Answer.{Answer}
 use Rattle.monitor_machine.specs.declared.machine.LiveMachine.{LiveMachine}
 use Rattle.monitor_machine.specs.declared.outcome.Outcome.{Outcome}

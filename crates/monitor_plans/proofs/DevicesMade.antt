@@ -1,4 +1,4 @@
-<<<<<<< f4895c43
+<<<<<<< 8bde38ab
 -- The devices that a start makes: the interfaces behind the drives, then the vsock device, and the balloon last.
 use Rattle.std.proofs.Common.{◌≡◌, ◌≤◌, ◌<◌, ◌^◌, ◌+◌, ℕ, true, refl, sym, ap, subst, List, [], ◌∷◌, ◌++◌, length, map, Option, Some, None, ◌∙◌, get_or, arith}
 use Rattle.std.specs.Prelude.{All, nat_le, nat_lt}
@@ -16,7 +16,7 @@ use Rattle.api_calls.specs.declared.balloon.BalloonPatch.{BalloonPatch}
 use Rattle.api_calls.specs.declared.balloon.StatisticsPatch.{StatisticsPatch}
 use Rattle.api_calls.specs.declared.call.Drive.{Drive}
 use Rattle.api_calls.specs.declared.interface.Interface.{Interface}
-<<<<<<< f4895c43
+<<<<<<< 8bde38ab
 use Rattle.api_calls.specs.declared.vsock.Vsock.{Vsock}
 use Rattle.api_calls.specs.Form.{holds}
 use Rattle.vm_config.specs.declared.config.Config.{Config}
@@ -39,7 +39,7 @@ use Rattle.guest_devices.specs.Ports.{port_at_start}
 use Rattle.flat_guest.specs.Shaped.{kinds_at_start}
 use Rattle.snap_state.specs.Valid.{is_balloon, kind_configured}
 use Rattle.flat_machine.specs.Balloon.{new_balloon}
-<<<<<<< f4895c43
+<<<<<<< 8bde38ab
 use Rattle.flat_machine.specs.Vsock.{new_vsock}
 use Rattle.flat_machine.specs.Ready.{IsTaken}
 use Rattle.flat_machine.specs.Requests.{device_from, drive_from}
@@ -74,7 +74,7 @@ balloon_near config b taken there =
 
 -- ---- which devices they are
 
-<<<<<<< f4895c43
+<<<<<<< 8bde38ab
 -- what stands in front stays there
 in_front : (it : NewDevice) (front : List NewDevice) (vsock : Option Vsock) (balloon : Option Balloon)
     → with_balloon (with_vsock (it ∷ front) vsock) balloon ≡ it ∷ with_balloon (with_vsock front vsock) balloon
@@ -154,7 +154,7 @@ many_with found interfaces (Some b) n many =
 drive_new : (it : NewDevice) → FitsDrive it → FitsNew it
 drive_new (starts.Block d) fits = fits
 drive_new (starts.Net n) fits = absurd fits
-<<<<<<< f4895c43
+<<<<<<< 8bde38ab
 drive_new (starts.Vsock v) fits = absurd fits
 =======
 >>>>>>> m
@@ -171,7 +171,7 @@ linked_new : (found : List NewDevice) (interfaces : List Interface) → All Fits
 linked_new found interfaces all =
     All-append FitsNew found (map net_start interfaces) (drives_new found all) (nets_new interfaces)
 
-<<<<<<< f4895c43
+<<<<<<< 8bde38ab
 vsock_new : (front : List NewDevice) (vsock : Option Vsock) → All FitsNew front → All FitsNew (with_vsock front vsock)
 vsock_new front None all = all
 vsock_new front (Some v) all =
@@ -202,7 +202,7 @@ one_kind : (it : NewDevice) (rest more : List DeviceKind) → FitsDrive it → r
     → (port_at_start it).kind ∷ rest ≡ numbers.Block ∷ more
 one_kind (starts.Block d) rest more fits same = ap (λ (l : List DeviceKind). numbers.Block ∷ l) same
 one_kind (starts.Net n) rest more fits same = absurd fits
-<<<<<<< f4895c43
+<<<<<<< 8bde38ab
 one_kind (starts.Vsock v) rest more fits same = absurd fits
 one_kind (starts.Balloon b) rest more fits same = absurd fits
 

@@ -4,8 +4,12 @@ use Rattle.std.specs.Prelude.{All, count_by, is_some}
 use Rattle.std.specs.FinMap.{get}
 use Rattle.std.specs.List.{filter, list_all, position_or_len}
 use Rattle.std.proofs.lemmas.Bool.{and_parts, leb-false, leb-true, ltb-true}
+<<<<<<< 8bde38ab
+use Rattle.std.proofs.lemmas.List.{append-nil, drop-replicate, map-append, take-append-le, take-replicate}
+=======
 use Rattle.std.proofs.lemmas.List.{append-nil, drop-replicate, length-append, map-append, take-append-le, take-replicate}
 use Rattle.std.proofs.lemmas.List.Filters.{length-filter_both}
+>>>>>>> m
 use Rattle.std.proofs.lemmas.List.Folds.{list_all-append}
 use Rattle.std.proofs.Math.Seq.{take-append-add, take-length}
 use Rattle.vm_types.specs.Saved.{Saved}
@@ -17,16 +21,23 @@ use Rattle.guest_devices.specs.declared.new_device.NewDevice.{NewDevice}
 use Rattle.api_calls.specs.Form.{holds, is_id, is_path}
 use Rattle.api_calls.specs.Limits.{is_limiter}
 use Rattle.vm_config.specs.Named.{are_apart}
+<<<<<<< 8bde38ab
+use Rattle.vm_config.proofs.DeviceLemmas.{length-ordered}
+=======
+>>>>>>> m
 use Rattle.snap_state.specs.Valid.{are_drives, is_drive}
 use Rattle.flat_machine.specs.Requests.{drive_from, have_files}
 use Rattle.monitor_plans.specs.declared.drives.DriveFiles.{DriveFiles}
 use Rattle.monitor_plans.specs.Starting.{FitsDrive}
+<<<<<<< 8bde38ab
+=======
 
 -- each drive is one of the devices
 pub length-in_order : (drives : List Drive) → length (in_order drives) ≡ length drives
 length-in_order drives =
     length-append (filter is_root drives) (filter (λ d. not (is_root d)) drives)
     ∙ length-filter_both is_root (λ d. not (is_root d)) (λ d. refl) drives
+>>>>>>> m
 
 -- the first elements, with the next or without one
 one_more : {A : Type 0} (xs : List A) (i : ℕ) (x : A) → slice_get xs i ≡ Some x → take (suc i) xs ≡ take i xs ++ x ∷ []
@@ -151,7 +162,7 @@ module _ (saved : Saved) (drives : List Drive) where
 
   -- all of them were asked
   whole : take (length drives) (in_order drives) ≡ in_order drives
-  whole = ap (λ (n : ℕ). take n (in_order drives)) (sym (length-in_order drives)) ∙ take-length (in_order drives)
+  whole = ap (λ (n : ℕ). take n (in_order drives)) (sym (length-ordered drives)) ∙ take-length (in_order drives)
 
   all_drives : (found : List NewDevice) → found ≡ drives_to (length drives) → found ≡ map (drive_from saved) (in_order drives)
   all_drives found is = is ∙ ap (map (drive_from saved)) whole
@@ -211,7 +222,7 @@ none_asked drives before now found i so_far is =
     record {
       drives_are = λ told. so_far.drives_are told ∙ ap (map (drive_from before.saved)) more;
       there_is = λ told. so_far.there_is told ∙ ap (λ (l : List Drive). have_files l before.saved) more;
-      many = λ inside. absurd (some_at (in_order drives) i (omega (arith, inside, length-in_order drives)) (sym is));
+      many = λ inside. absurd (some_at (in_order drives) i (omega (arith, inside, length-ordered drives)) (sym is));
       fit = so_far.fit;
       same = so_far.same;
       kept = so_far.kept;
@@ -243,5 +254,5 @@ below_most drives id most number few is =
     let below =
     found_below (position_or_len (is_named id) (in_order drives)) (length (in_order drives)) number
     (nat_lt (position_or_len (is_named id) (in_order drives)) (length (in_order drives))) refl (sym is) in
-    let many = length-in_order drives in
+    let many = length-ordered drives in
     omega (arith, below, many, few)

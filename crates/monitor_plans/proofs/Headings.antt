@@ -171,7 +171,7 @@ saved_are parent pages ns kinds g are kinds_are rise whole =
     ∙ ap (λ (l : List ℕ). stored_pages Two (length l) (pages_at l g.memory.bytes)) are
 
 -- the header and the table
-<<<<<<< f4895c43
+<<<<<<< 8bde38ab
 pub diff_head_is : (parent identity : Identity) (pages count stored : ℕ) (ns start head : List ℕ) (kinds : List Bool) (runs : List Run) (g : Guest)
     → ns ≡ numbers_written g.written 0 pages → kinds ≡ kinds_of (length ns) (pages_at ns g.memory.bytes) → runs ≡ runs_of ns kinds
     → count ≡ length runs → stored ≡ stored_in runs

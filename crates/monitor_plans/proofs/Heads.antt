@@ -1,5 +1,5 @@
 -- What stands behind the gates of the two files.
-<<<<<<< f4895c43
+<<<<<<< 8bde38ab
 use Rattle.std.proofs.Common.{◌≡◌, ℕ, List, ◌∷◌, ◌++◌, drop, ap, subst, ◌∙◌}
 =======
 use Rattle.std.proofs.Common.{◌≡◌, ℕ, List, ◌∷◌, drop, ap, ◌∙◌}
@@ -20,7 +20,7 @@ unfolding memory_head
 head_is identity pages h behind head new written same = same ∙ ap (drop 1) (written ∙ ap header.bytes new)
 
 pub body_is : (identity : Identity) (copy : StateCopy) (behind body : List ℕ)
-<<<<<<< f4895c43
+<<<<<<< 8bde38ab
     → Encodes (1 ∷ behind) (record { identity = identity; copy = copy }) → version_of (1 ∷ behind) ≡ current_version → body ≡ behind
     → body ≡ state_body identity copy
 unfolding state_body

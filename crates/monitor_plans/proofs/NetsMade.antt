@@ -5,7 +5,7 @@ use Rattle.std.proofs.lemmas.Bool.{and_parts}
 use Rattle.std.proofs.lemmas.List.{append-nil}
 use Rattle.api_calls.specs.declared.balloon.Balloon.{Balloon}
 use Rattle.api_calls.specs.declared.interface.Interface.{Interface}
-<<<<<<< f4895c43
+<<<<<<< 8bde38ab
 use Rattle.api_calls.specs.declared.vsock.Vsock.{Vsock}
 use Rattle.api_calls.specs.Form.{holds}
 use Rattle.api_calls.specs.Limits.{is_limiter}
@@ -24,7 +24,7 @@ use Rattle.guest_devices.specs.declared.new_device.NewDevice.{NewDevice}
 use Rattle.snap_state.specs.Valid.{is_interface}
 use Rattle.flat_machine.specs.Ready.{IsTaken}
 use Rattle.flat_machine.proofs.Taken.{bounded}
-<<<<<<< f4895c43
+<<<<<<< 8bde38ab
 use Rattle.monitor_plans.specs.Starting.{net_start, with_balloon, with_others, with_vsock}
 =======
 use Rattle.monitor_plans.specs.Starting.{net_start, with_balloon, with_others}
@@ -72,7 +72,7 @@ pub one_pushed : (old mid new : List NewDevice) (first : Interface) (others : Li
 one_pushed old mid new first others put more =
     more ∙ ap (λ (l : List NewDevice). l ++ map net_start others) put ∙ append_assoc old (net_start first ∷ []) (map net_start others)
 
-<<<<<<< f4895c43
+<<<<<<< 8bde38ab
 pub others_with : (found linked socketed all : List NewDevice) (interfaces own : List Interface) (vsock : Option Vsock)
     (balloon : Option Balloon) → own ≡ interfaces → linked ≡ found ++ map net_start own → socketed ≡ with_vsock linked vsock
     → all ≡ with_balloon socketed balloon → all ≡ with_others found interfaces vsock balloon

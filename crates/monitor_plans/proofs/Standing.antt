@@ -61,7 +61,7 @@ start_ready config image disk devices w taken there many kinds fit fits is =
             source = own.source;
             drives = own.drives;
             interfaces = own.interfaces;
-<<<<<<< f4895c43
+<<<<<<< 8bde38ab
             vsock = own.vsock;
             mmds = own.mmds;
 =======

@@ -33,7 +33,7 @@ plan_answer plan.NoMemory told = refused refusal.OutOfMemory
 -- what it makes of this configuration is as the API takes it
 abbrev pub IsFittingPlan : Plan → Config → Type 0
 IsFittingPlan (plan.Changes it) config = IsFitting config it
-<<<<<<< f4895c43
+<<<<<<< 8bde38ab
 IsFittingPlan (plan.Drives drives) config = AreFitting drives config.interfaces config.vsock config.balloon
 IsFittingPlan (plan.Interfaces interfaces) config =
     AreLinked config.drives interfaces config.vsock config.balloon config.mmds
@@ -61,7 +61,7 @@ IsEarly (change.BootSource source) world = world ≡ None
 IsEarly (change.PutDrive drive) world = world ≡ None
 IsEarly (change.PutInterface interface) world = world ≡ None
 IsEarly (change.MachineConfig machine) world = world ≡ None
-<<<<<<< f4895c43
+<<<<<<< 8bde38ab
 IsEarly (change.PutVsock vsock) world = world ≡ None
 IsEarly (change.PutBalloon balloon) world = world ≡ None
 IsEarly (change.MmdsConfig mmds) world = world ≡ None

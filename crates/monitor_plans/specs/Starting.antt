@@ -3,7 +3,7 @@ use Rattle.std.specs.Prelude.{◌≡◌, ℕ, List, [], ◌∷◌, ◌++◌, map
 use Rattle.vm_types.specs.Saved.{Saved}
 use Rattle.api_calls.specs.declared.balloon.Balloon.{Balloon}
 use Rattle.api_calls.specs.declared.interface.Interface.{Interface}
-<<<<<<< f4895c43
+<<<<<<< 8bde38ab
 use Rattle.api_calls.specs.declared.vsock.Vsock.{Vsock}
 =======
 >>>>>>> m
@@ -14,7 +14,7 @@ use Rattle.guest_devices.specs.Devices.{FitsNew}
 use Rattle.flat_guest.specs.Start.{started}
 use Rattle.flat_machine.specs.Balloon.{new_balloon}
 use Rattle.flat_machine.specs.Interfaces.{new_net}
-<<<<<<< f4895c43
+<<<<<<< 8bde38ab
 use Rattle.flat_machine.specs.Vsock.{new_vsock}
 =======
 >>>>>>> m
@@ -34,7 +34,7 @@ disk_in config saved = disk_by (initrd_name config.boot_source) saved
 abbrev pub FitsDrive : NewDevice → Type 0
 FitsDrive (starts.Block d) = FitsNew (starts.Block d)
 FitsDrive (starts.Net n) = ⊥
-<<<<<<< f4895c43
+<<<<<<< 8bde38ab
 FitsDrive (starts.Vsock v) = ⊥
 =======
 >>>>>>> m
@@ -49,7 +49,7 @@ abbrev pub with_balloon : List NewDevice → Option Balloon → List NewDevice
 with_balloon drives None = drives
 with_balloon drives (Some b) = drives ++ starts.Balloon (new_balloon b) ∷ []
 
-<<<<<<< f4895c43
+<<<<<<< 8bde38ab
 -- and the vsock device before it
 abbrev pub with_vsock : List NewDevice → Option Vsock → List NewDevice
 with_vsock drives None = drives

@@ -2,7 +2,7 @@
 ghost use Rattle.std.specs.Prelude.{All, ◌≡◌, ◌++◌, true, IfOk, OnOk, length, map};
 ghost use Rattle.flat_guest.specs.Shaped.{kinds_at_start};
 ghost use Rattle.flat_machine.specs.Ready.{IsTaken};
-<<<<<<< f4895c43
+<<<<<<< 8bde38ab
 ghost use Rattle.flat_machine.specs.Vsock.{new_vsock};
 =======
 >>>>>>> m
@@ -16,7 +16,7 @@ ghost use Rattle.vm_outside.specs.Filing.{SameFiles};
 ghost use Rattle.vm_outside.specs.Known.{Lasts, Tells};
 ghost use Rattle.snap_state.specs.Valid.{is_interface};
 ghost use Rattle.std.specs.List.{list_all};
-<<<<<<< f4895c43
+<<<<<<< 8bde38ab
 ghost use Rattle.monitor_plans.specs.Starting.{net_start, with_balloon, with_others, with_vsock};
 =======
 ghost use Rattle.monitor_plans.specs.Starting.{net_start, with_balloon, with_others};
@@ -25,7 +25,7 @@ ghost use Rattle.monitor_plans.specs.Starting.{net_start, with_balloon, with_oth
 use crate::balloon::new_balloon;
 use crate::drives::{DriveFiles, drive_files};
 use crate::nets::new_net;
-<<<<<<< f4895c43
+<<<<<<< 8bde38ab
 use api_calls::{Interface, Vsock};
 =======
 use api_calls::Interface;
@@ -35,7 +35,7 @@ use gate_file::FileError;
 use guest_devices::NewDevice;
 use std::alloc::{AllocError, Global};
 use vm_outside::Files;
-<<<<<<< f4895c43
+<<<<<<< 8bde38ab
 use vsock_device::NewVsock;
 =======
 >>>>>>> m
@@ -55,7 +55,7 @@ fn push_nets(devices: &mut Vec<NewDevice>, interfaces: &[Interface]) -> Result<(
     }
 }
 
-<<<<<<< f4895c43
+<<<<<<< 8bde38ab
 // What a vsock device starts with.
 fn new_vsock(vsock: &Vsock) -> NewVsock
     ensures { result ≡ new_vsock vsock.now }
@@ -80,7 +80,7 @@ fn with_interfaces(found: DriveFiles, interfaces: &[Interface]) -> Result<DriveF
     })
 }
 
-<<<<<<< f4895c43
+<<<<<<< 8bde38ab
 // The vsock device stands before the balloon.
 fn with_vsock(found: DriveFiles, config: &Config) -> Result<DriveFiles, AllocError>
     ensures drives { IfOk result (λ it. it.drives.items ≡ with_vsock found.drives.items config.now.vsock) }
@@ -120,7 +120,7 @@ fn with_balloon(found: DriveFiles, config: &Config) -> Result<DriveFiles, AllocE
     }
 }
 
-<<<<<<< f4895c43
+<<<<<<< 8bde38ab
 // The interfaces stand behind the drives, and before those.
 =======
 // The interfaces stand behind the drives, and before the balloon.
@@ -129,7 +129,7 @@ fn with_balloon(found: DriveFiles, config: &Config) -> Result<DriveFiles, AllocE
 fn with_others(found: DriveFiles, config: &Config) -> Result<DriveFiles, AllocError>
     requires { IsTaken config.now }
     ensures drives { IfOk result (λ it. it.drives.items
-<<<<<<< f4895c43
+<<<<<<< 8bde38ab
         ≡ with_others found.drives.items config.now.interfaces config.now.vsock config.now.balloon) }
     ensures there { IfOk result (λ it. it.are_there ≡ found.are_there) }
 {

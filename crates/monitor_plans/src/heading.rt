@@ -1,5 +1,5 @@
 // What stands before the pages of a memory file, and which pages follow.
-<<<<<<< f4895c43
+<<<<<<< 8bde38ab
 ghost use Rattle.std.specs.Prelude.{◌≡◌, ◌<◌, ◌^◌, length, true, IfOk, IfSome, IsTrue, Some};
 =======
 ghost use Rattle.std.specs.Prelude.{◌≡◌, length, IfOk, IfSome, IsTrue, Some};
@@ -93,7 +93,7 @@ fn diff_heading(
         count,
         stored: filled,
     };
-<<<<<<< f4895c43
+<<<<<<< 8bde38ab
     let Ok(start) = header.encode_behind_gate(alloc, table) else {
 =======
     let Ok(start) = header.encode_behind_gate(alloc, &numbers) else {
@@ -102,7 +102,7 @@ fn diff_heading(
     };
     Some(Heading {
         head: ByteList::from_vec(start),
-<<<<<<< f4895c43
+<<<<<<< 8bde38ab
         numbers: Some(stored),
     })
 }

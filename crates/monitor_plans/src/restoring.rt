@@ -10,7 +10,7 @@ ghost use Rattle.monitor_plans.specs.Restoring.{RestoreGives};
 use crate::plan::Plan;
 use crate::taken_config::TakenConfig;
 use api_calls::SnapshotLoad;
-use snap_finding::{FindError, find};
+use snap_restore::{FindError, find};
 use std::alloc::Global;
 use vm_outside::Files;
 use vm_types::Identity;

@@ -1,5 +1,5 @@
 -- One event more of a device.
-<<<<<<< f4895c43
+<<<<<<< 8bde38ab
 use Rattle.std.proofs.Common.{◌≡◌, ◌<◌, ℕ, true, refl, sym, ap, ◌∙◌, subst, List, [], ◌∷◌, ◌++◌, MatchBool, Option, Some, None}
 =======
 use Rattle.std.proofs.Common.{◌≡◌, ◌<◌, ℕ, true, refl, sym, subst, List, [], ◌∷◌, ◌++◌, MatchBool, Option, Some, None}
@@ -9,7 +9,7 @@ use Rattle.vm_types.specs.declared.ids.ActorId.{ActorId}
 use Rattle.vm_types.specs.declared.ids.PlaceId.{PlaceId}
 use Rattle.vm_types.specs.declared.entry.Entry.{Entry}
 use Rattle.vm_types.specs.declared.op.Op.{Op}
-<<<<<<< f4895c43
+<<<<<<< 8bde38ab
 use Rattle.vm_types.specs.declared.op.OutOp.TheVariants.{HostClose, HostDial, HostNext, HostSend, LinkEnd, LinkPart, LinkSend, LinkTake}
 =======
 use Rattle.vm_types.specs.declared.op.OutOp.TheVariants.{LinkEnd, LinkPart, LinkSend, LinkTake}
@@ -26,7 +26,7 @@ use Rattle.flat_guest.proofs.Determined.{wants_one}
 use Rattle.vm_world.specs.Refusing.{refusal_of}
 use Rattle.vm_world.specs.Worlds.{IsWorld, MakesEvent, WorldValue, pages_of, place_in}
 use Rattle.slice_runner.specs.Slices.{given_of}
-<<<<<<< f4895c43
+<<<<<<< 8bde38ab
 use Rattle.monitor_running.specs.Devices.{AsksDisk, DiskReplies, DiskRests, HaveActed, IsDevices, IsGiven, IsGivenBy, IsGivenByDisk, IsShort, unserved_reply}
 =======
 use Rattle.monitor_running.specs.Devices.{AsksDisk, DiskReplies, DiskRests, HaveActed, IsDevices, IsGiven, IsGivenBy, IsGivenByDisk, link_reply}
@@ -67,7 +67,7 @@ disk_asks k (Op.Out act) None reply old now it is = let never = is in cc
 disk_asks k op None reply old now it is = rests_of old now it
 disk_asks k op (Some r) reply old now it is = absurd it
 
-<<<<<<< f4895c43
+<<<<<<< 8bde38ab
 -- what calls a link or a socket asks no disk
 link_asks : (k : ℕ) (op : Op) (given reply : Reply) (old now : DiskKnown) → unserved_reply op ≡ Some given → now ≡ old
 =======
@@ -79,7 +79,7 @@ link_asks k (Op.Out LinkTake) given reply old now calls same = rests_of old now 
 link_asks k (Op.Out (LinkPart index length)) given reply old now calls same = rests_of old now same
 link_asks k (Op.Out (LinkSend piece)) given reply old now calls same = rests_of old now same
 link_asks k (Op.Out LinkEnd) given reply old now calls same = rests_of old now same
-<<<<<<< f4895c43
+<<<<<<< 8bde38ab
 link_asks k (Op.Out HostNext) given reply old now calls same = rests_of old now same
 link_asks k (Op.Out (HostDial port)) given reply old now calls same = rests_of old now same
 link_asks k (Op.Out (HostSend piece connection)) given reply old now calls same = rests_of old now same
@@ -118,7 +118,7 @@ module _ (first w : WorldValue) (asked old now : DiskKnown) (es : List Entry) (k
       given_is (layout_of h) h e.actor e.op (as_given given) e.reply
       (subst (λ (p : PlaceId). Answers p h e.actor e.op (as_given given) e.reply) step.place step.answer) in
       subst (λ (a : ActorId). AsksDisk e.op a e.reply old now) (sym step.actor)
-<<<<<<< f4895c43
+<<<<<<< 8bde38ab
       (asks_by k e.op given e.reply old now (unserved_reply e.op) refl
       (subst (λ (o : Op). IsGiven k o old given now) (sym same) was_given) told)
 
@@ -176,7 +176,7 @@ module _ (first w : WorldValue) (asked old now : DiskKnown) (es : List Entry) (k
     made = λ g is. acted.made g is;
     answered = λ g is.
         let before = acted.serial g is in
-<<<<<<< f4895c43
+<<<<<<< 8bde38ab
         rw (unasked (unserved_reply op) given op was_given never before.0 before.2) (acted.answered g is);
 =======
         rw (unasked (link_reply op) given op was_given never before.0 before.2) (acted.answered g is);

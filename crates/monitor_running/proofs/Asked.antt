@@ -19,7 +19,7 @@ use Rattle.hart_trace.proofs.Traces as hart_traces
 use Rattle.timer_trace.specs.States.{wants_by}
 use Rattle.timer_trace.proofs.Traces as timer_traces
 use Rattle.guest_devices.specs.Devices.{FlatDevice}
-<<<<<<< f4895c43
+<<<<<<< 8bde38ab
 use Rattle.guest_devices.specs.Kinds.{Balloon, Block, Kind, Net, Vsock, calls_of}
 =======
 use Rattle.guest_devices.specs.Kinds.{Balloon, Block, Kind, Net, calls_of}
@@ -81,7 +81,7 @@ IsKinds act = (kind : Kind) × (calls_of kind act ≡ true)
 no_clock : (kind : Kind) → calls_of kind Clock ≡ true → ⊥
 no_clock Block calls = cc
 no_clock Net calls = cc
-<<<<<<< f4895c43
+<<<<<<< 8bde38ab
 no_clock Vsock calls = cc
 =======
 >>>>>>> m

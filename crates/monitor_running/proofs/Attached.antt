@@ -9,6 +9,7 @@ use Rattle.vm_types.specs.declared.op.OutOp.{OutOp}
 use Rattle.vm_types.specs.declared.op.OutOp.TheVariants.{DiskFlush, DiskRead, DiskWrite}
 use Rattle.vm_types.specs.declared.reply.Reply.{Reply}
 use Rattle.vm_outside.specs.Known.{Health, Lasts, Tells}
+use Rattle.vm_outside.proofs.Passing.{lasts_more}
 use Rattle.vm_host.specs.declared.attached.Attached.{Attached}
 use Rattle.vm_host.specs.Devices.{IsOf}
 use Rattle.vm_host.specs.Storing.{DiskKnown}
@@ -21,7 +22,7 @@ use Rattle.monitor_machine.specs.Disks.{HasFile, HasFilesBy}
 use Rattle.monitor_running.specs.Asked.{HasOwnFile}
 use Rattle.monitor_running.specs.Devices.{AsksDisk, CallsDisk, DiskReplies, DiskRests, DiskWasAsked, Holds, IsDevices, IsHeard}
 use Rattle.monitor_running.specs.Waiting.{makers, turns}
-use Rattle.monitor_running.proofs.Disks.{IsOther, all_other, lasts_more, others_made}
+use Rattle.monitor_running.proofs.Disks.{IsOther, all_other, others_made}
 
 -- if they told their content, they are the files that they were
 pub record SameFiles (old new : DiskKnown) : Type 0 where

@@ -1,5 +1,5 @@
 -- What disks were asked, event by event.
-use Rattle.std.proofs.Common.{◌≡◌, ℕ, zero, suc, Bool, true, false, MatchBool, cond, refl, sym, ap, ◌∙◌, subst, arith, Option, List, [], ◌∷◌, ◌++◌, take, drop, All}
+use Rattle.std.proofs.Common.{◌≡◌, ℕ, zero, suc, Bool, true, false, MatchBool, cond, refl, sym, ap, ◌∙◌, subst, Option, List, [], ◌∷◌, ◌++◌, take, drop, All}
 use Rattle.std.specs.List.{AllByRecursion}
 use Rattle.std.proofs.lemmas.List.Elements.{recursion_from_All}
 use Rattle.vm_types.specs.Causes.{Rose}
@@ -10,7 +10,7 @@ use Rattle.vm_types.specs.declared.op.Op.{Op}
 use Rattle.vm_types.specs.declared.op.OutOp.{OutOp}
 use Rattle.vm_types.specs.declared.op.OutOp.TheVariants.{DiskFlush, DiskRead, DiskWrite}
 use Rattle.vm_types.specs.declared.reply.Reply.{Reply}
-use Rattle.vm_outside.specs.Known.{Health, Lasts}
+use Rattle.vm_outside.proofs.Passing.{lasts_more, lasts_same}
 use Rattle.vm_host.specs.declared.disk.DiskCall.{DiskCall}
 use Rattle.vm_host.specs.declared.disk.DiskCall.TheVariants as call
 use Rattle.vm_host.specs.Devices.{ChangesAt}
@@ -23,13 +23,6 @@ use Rattle.monitor_running.specs.Devices.{AsksDisk, CallsDisk, DiskReplies, Disk
 use Rattle.monitor_running.specs.Waiting.{hart_turn, hart_turns, is_left_out, makers, turns}
 
 -- ---- a disk that is asked nothing
-
-lasts_same : (health : Health) → Lasts health health
-lasts_same health = record { still = λ tells. tells; later = omega arith }
-
-pub lasts_more : (a b c : Health) → Lasts a b → Lasts b c → Lasts a c
-lasts_more a b c first behind =
-    record { still = λ tells. behind.still (first.still tells); later = omega (arith, first.later, behind.later) }
 
 same_more : (a b c : DiskKnown) → SameDisks a b → SameDisks b c → SameDisks a c
 same_more a b c first behind = record {

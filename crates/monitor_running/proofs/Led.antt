@@ -1,8 +1,9 @@
 -- A slice's events, and a drain, are a run over the items that tell them.
-use Rattle.std.proofs.Common.{◌≡◌, ◌<◌, nat_le, ℕ, zero, suc, Bool, true, false, if◌then◌else◌, ◌&&◌, refl, sym, ap, ◌∙◌, subst, List, [], ◌∷◌, ◌++◌, map, take, drop, append-nil, take-append-drop, Option, Some, ◌⊎◌, inl, inr}
-<<<<<<< f4895c43
-use Rattle.std.proofs.lemmas.Bool.{le-leb}
+<<<<<<< 8bde38ab
+use Rattle.std.proofs.Common.{◌≡◌, ◌<◌, nat_le, ℕ, zero, suc, Bool, true, false, if◌then◌else◌, refl, sym, ap, ◌∙◌, subst, List, [], ◌∷◌, ◌++◌, map, take, drop, append-nil, take-append-drop, Option, Some, ◌⊎◌, inl, inr}
+use Rattle.std.proofs.lemmas.Bool.{and_parts, le-leb}
 =======
+use Rattle.std.proofs.Common.{◌≡◌, ◌<◌, nat_le, ℕ, zero, suc, Bool, true, false, if◌then◌else◌, ◌&&◌, refl, sym, ap, ◌∙◌, subst, List, [], ◌∷◌, ◌++◌, map, take, drop, append-nil, take-append-drop, Option, Some, ◌⊎◌, inl, inr}
 >>>>>>> m
 use Rattle.std.proofs.lemmas.List.Elements.{All-cons}
 use Rattle.vm_types.specs.declared.entry.Entry.{Entry}
@@ -25,7 +26,7 @@ use Rattle.vm_world.specs.Worlds.{IsWorld, WorldValue}
 use Rattle.slice_runner.specs.Slices.{Leads, event_of, given_of}
 use Rattle.monitor_running.proofs.Asked.{IsAsking, IsDeviceCall, is_asking}
 use Rattle.device_trace.specs.Acts.{is_disk_call}
-<<<<<<< f4895c43
+<<<<<<< 8bde38ab
 use Rattle.guest_devices.specs.Kinds.{Balloon, Block, Kind, Net, Vsock, calls_of}
 use Rattle.flat_guest.specs.Sound.{IsSound}
 use Rattle.flat_guest.proofs.Soundness.{sound_next}
@@ -94,16 +95,23 @@ disk_again DiskFlush Reply.Failed call fits = refl
 disk_again DiskFlush reply call fits = cc
 disk_again act reply call fits = cc
 
+<<<<<<< 8bde38ab
+=======
 and_second : (a b : Bool) → (a && b) ≡ true → b ≡ true
 and_second true b is = is
 and_second false b is = cc
 
+>>>>>>> m
 frame_again : (length : ℕ) → nat_le length 1514 ≡ true → reply_given (frame_reply length) ≡ Host (Reply.Frame length)
 frame_again length fits = ap (λ (b : Bool). reply_given (if b then lines.Frame length else lines.Failed)) fits
 
 link_again : (act : OutOp) (reply : Reply) → calls_of Net act ≡ true → out_fits act reply ≡ true
     → reply_given (host_reply reply) ≡ Host reply
+<<<<<<< 8bde38ab
+link_again LinkTake (Reply.Frame length) call fits = frame_again length (and_parts (nat_le 14 length) (nat_le length 1514) fits).1
+=======
 link_again LinkTake (Reply.Frame length) call fits = frame_again length (and_second (nat_le 14 length) (nat_le length 1514) fits)
+>>>>>>> m
 link_again LinkTake Reply.Nothing call fits = refl
 link_again LinkTake Reply.Failed call fits = refl
 link_again LinkTake reply call fits = cc
@@ -118,7 +126,7 @@ link_again LinkEnd Reply.Failed call fits = refl
 link_again LinkEnd reply call fits = cc
 link_again act reply call fits = cc
 
-<<<<<<< f4895c43
+<<<<<<< 8bde38ab
 socket_again : (act : OutOp) (reply : Reply) → calls_of Vsock act ≡ true → out_fits act reply ≡ true → IsShort (Op.Out act) reply
     → reply_given (host_reply reply) ≡ Host reply
 socket_again HostNext Reply.Nothing call fits short = refl
@@ -160,7 +168,7 @@ given_again : (e : Entry) (act : OutOp) → IsAsking e act ⊎ IsDeviceCall e ac
     → reply_given (host_reply e.reply) ≡ Host e.reply
 given_again e act (inl asking) is heard =
     subst (λ (r : Reply). reply_given (host_reply r) ≡ Host r) (sym asking.reply) refl
-<<<<<<< f4895c43
+<<<<<<< 8bde38ab
 given_again e act (inr own) is heard =
     let device : IsShort e.op e.reply = subst (λ (a : ActorId). IsHeard a e.op e.reply) own.actor heard in
     call_again own.call.0 act e.reply own.call.1 own.fits (subst (λ (o : Op). IsShort o e.reply) is device)

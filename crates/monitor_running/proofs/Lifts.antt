@@ -1,8 +1,8 @@
 -- From the world of a machine to the machine, and from one slice to the next.
-use Rattle.std.proofs.Common.{◌≡◌, ℕ, ◌≤◌, Bool, true, false, refl, sym, ap, ◌∙◌, subst, List, ◌++◌, Option, Some, None, arith}
-use Rattle.vm_types.specs.Causes.{Rose}
-use Rattle.vm_outside.specs.Known.{FilesKnown, Health, SinkKnown}
+use Rattle.std.proofs.Common.{◌≡◌, Bool, true, false, refl, sym, ap, ◌∙◌, subst, List, ◌++◌, Option, Some, None}
+use Rattle.vm_outside.specs.Known.{FilesKnown, SinkKnown}
 use Rattle.vm_outside.specs.Known as objects
+use Rattle.vm_outside.proofs.Passing.{lasts_more, lasts_same, later_rose}
 use Rattle.serve_host.specs.Tracing.{TraceKnown, TraceStays}
 use Rattle.flat_guest.specs.Guest.{Guest}
 use Rattle.flat_machine.specs.Machine.{Machine, is_off, running_by}
@@ -21,13 +21,6 @@ use Rattle.monitor_running.proofs.Joins.{HostRests, rests, still_files}
 use Rattle.flat_trace.proofs.Lines.{guest_is}
 
 -- ---- what an object told, call after call
-
-pub lasts_same : (told : Health) → objects.Lasts told told
-lasts_same told = record { still = λ tells. tells; later = omega arith }
-
-lasts_more : (before mid now : Health) → objects.Lasts before mid → objects.Lasts mid now → objects.Lasts before now
-lasts_more before mid now first second =
-    record { still = λ tells. second.still (first.still tells); later = omega (arith, first.later, second.later) }
 
 -- and a trace is that of the same path
 pub stays_more : (before mid now : TraceKnown) → objects.Lasts before.health mid.health → TraceStays before mid → TraceStays mid now
@@ -256,18 +249,15 @@ went_closed k live answer is says = record {
 
 -- ---- one slice behind others
 
-rose_later : (before mid now : ℕ) → before ≤ mid → Rose mid now → Rose before now
-rose_later before mid now later rose = omega (arith, later, rose)
-
 fault_on : (end : Option Ran) (old mid now : Known) → objects.Lasts old.trace.health mid.trace.health
     → objects.Lasts old.sink.health mid.sink.health → HasFault end mid now → HasFault end old now
 fault_on None old mid now trace sink fault = tt
 fault_on (Some ran.Closed) old mid now trace sink fault = tt
 fault_on (Some ran.Off) old mid now trace sink fault = tt
 fault_on (Some ran.TraceFailed) old mid now trace sink fault =
-    rose_later old.trace.health.faults mid.trace.health.faults now.trace.health.faults trace.later fault
+    later_rose old.trace.health.faults mid.trace.health.faults now.trace.health.faults trace.later fault
 fault_on (Some ran.SinkFailed) old mid now trace sink fault =
-    rose_later old.sink.health.faults mid.sink.health.faults now.sink.health.faults sink.later fault
+    later_rose old.sink.health.faults mid.sink.health.faults now.sink.health.faults sink.later fault
 fault_on (Some ran.OutOfMemory) old mid now trace sink fault = tt
 
 pub went_on : {B : Type 0} (Is : B → Machine → Type 0) (end : Option Ran) (old mid now : Known) (b c d : B)

@@ -1,4 +1,4 @@
-<<<<<<< f4895c43
+<<<<<<< 8bde38ab
 -- What devices ask of their disks, links and sockets, and the events that they make.
 use Rattle.std.specs.Prelude.{ℕ, ◌≡◌, ◌<◌, ◌≤◌, true, MatchBool, All, List, [], ◌∷◌, Option, Some, None, length}
 =======
@@ -11,7 +11,7 @@ use Rattle.vm_types.specs.declared.entry.Entry.{Entry}
 use Rattle.vm_types.specs.declared.ids.ActorId.{ActorId}
 use Rattle.vm_types.specs.declared.op.Op.{Op}
 use Rattle.vm_types.specs.declared.op.OutOp.{OutOp}
-<<<<<<< f4895c43
+<<<<<<< 8bde38ab
 use Rattle.vm_types.specs.declared.op.OutOp.TheVariants.{DiskFlush, DiskRead, DiskWrite, HostClose, HostDial, HostNext, HostSend, LinkEnd, LinkPart, LinkSend, LinkTake}
 =======
 use Rattle.vm_types.specs.declared.op.OutOp.TheVariants.{DiskFlush, DiskRead, DiskWrite, LinkEnd, LinkPart, LinkSend, LinkTake}
@@ -68,7 +68,7 @@ IsGivenByDisk device (Op.Out act) old (Some reply) new =
     (is_disk_call act ≡ true) × (out_fits act reply ≡ true) × DiskReplies device act reply old new
 IsGivenByDisk device op old (Some reply) new = ⊥
 
-<<<<<<< f4895c43
+<<<<<<< 8bde38ab
 -- What a device is answered that calls its link or its socket: none is served, so that no frame comes and none can be sent, and that no
 -- connection is opened or can be.
 abbrev pub unserved_reply : Op → Option Reply
@@ -99,7 +99,7 @@ IsGivenBy (Some reply) device op old given new = (given ≡ Some reply) × (new 
 IsGivenBy None device op old given new = IsGivenByDisk device op old given new
 
 abbrev pub IsGiven : ℕ → Op → DiskKnown → Option Reply → DiskKnown → Type 0
-<<<<<<< f4895c43
+<<<<<<< 8bde38ab
 IsGiven device op old given new = IsGivenBy (unserved_reply op) device op old given new
 =======
 IsGiven device op old given new = IsGivenBy (link_reply op) device op old given new

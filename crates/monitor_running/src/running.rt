@@ -17,7 +17,7 @@ ghost use Rattle.monitor_running.specs.Reached.{Known};
 ghost use Rattle.monitor_running.specs.Turned.{IsTurn, IsTurnPart};
 
 use crate::alone::{MOST_ALONE, Turn, lone_hart, run_alone};
-use crate::devices::{MOST_DEVICES, run_devices};
+use crate::devices::run_devices;
 use crate::gating::is_open;
 use crate::objects::TurnObjects;
 use crate::pacing::Pace;
@@ -29,6 +29,7 @@ use crate::working::device_works;
 use guest_memory::HART_LIMIT;
 use monitor_machine::LiveMachine;
 use pause_gate::Gate;
+use port_table::MOST_DEVICES;
 use slice_runner::{Slice, run_slice};
 use std::alloc::{AllocError, Global};
 use std::sync::Wait;

@@ -3,9 +3,8 @@ ghost use Rattle.std.specs.Prelude.{◌≡◌, ◌↔◌, true, slice_get};
 ghost use Rattle.std.specs.List.{list_any};
 ghost use Rattle.monitor_running.specs.Working.{HasWork, is_called, is_called_at, works_in};
 
-use crate::devices::MOST_DEVICES;
 use mmio_port::Port;
-use port_table::PortQueue;
+use port_table::{MOST_DEVICES, PortQueue};
 use vm_types::{ActorId, Op, PortOp};
 use vm_world::World;
 

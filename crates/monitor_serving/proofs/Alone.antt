@@ -6,6 +6,7 @@ use Rattle.vm_types.specs.declared.exit.Object.TheVariants as object
 use Rattle.flat_trace.specs.Events.{event_acts}
 use Rattle.monitor_running.specs.Asked.{HostKnown}
 use Rattle.vm_outside.specs.Known.{FilesKnown, Health, Lasts, SinkKnown}
+use Rattle.vm_outside.proofs.Passing.{later_rose}
 use Rattle.serve_host.specs.Passing.{ConnKnown}
 use Rattle.serve_host.specs.declared.listener.Accepted.{Accepted}
 use Rattle.serve_host.specs.declared.listener.Accepted.TheVariants as accepted
@@ -32,7 +33,6 @@ use Rattle.monitor_serving.proofs.Bringing.{come_back, come_same, serves_same}
 use Rattle.monitor_serving.proofs.Connections.{in_off, in_part}
 use Rattle.monitor_serving.proofs.Filing.{SameFiled, filed, filed_ahead, filed_beside, run_filed}
 use Rattle.monitor_serving.proofs.Slices.{monitor_kept}
-use Rattle.monitor_serving.proofs.Turns.{rose_after}
 
 module _ (monitor now_monitor : Monitor) (machine : LiveMachine) (k now : Known) (files : FilesKnown) (listener : ListenerKnown)
     (lent : now_monitor ≡ record monitor { machine = machine }) where
@@ -178,10 +178,10 @@ module _ (a b c : Hosts) (x y z : Health) (hosts : AllLast a b) (listener : Last
   end_cause_on served.Ended cause = tt
   end_cause_on served.Off cause = tt
   end_cause_on (served.Fault object.Trace) cause =
-      rose_after a.slices.trace.health.faults b.slices.trace.health.faults c.slices.trace.health.faults hosts.trace.later cause
+      later_rose a.slices.trace.health.faults b.slices.trace.health.faults c.slices.trace.health.faults hosts.trace.later cause
   end_cause_on (served.Fault object.Sink) cause =
-      rose_after a.slices.sink.health.faults b.slices.sink.health.faults c.slices.sink.health.faults hosts.sink.later cause
-  end_cause_on (served.Fault object.Listener) cause = rose_after x.faults y.faults z.faults listener.later cause
+      later_rose a.slices.sink.health.faults b.slices.sink.health.faults c.slices.sink.health.faults hosts.sink.later cause
+  end_cause_on (served.Fault object.Listener) cause = later_rose x.faults y.faults z.faults listener.later cause
   end_cause_on (served.Fault object.Source) cause = absurd cause
   end_cause_on (served.Fault object.Files) cause = absurd cause
   end_cause_on (served.Fault object.Words) cause = absurd cause

@@ -11,7 +11,7 @@ use Rattle.serve_host.specs.Passing.{ConnKnown, Gives, Waits}
 use Rattle.serve_host.specs.Tracing.{TraceKnown}
 use Rattle.script_text.specs.declared.item.Item.TheVariants as item
 use Rattle.vm_types.specs.declared.exit.Object.TheVariants as object
-use Rattle.response_form.specs.declared.form.ResponseForm.TheVariants.{Http}
+use Rattle.responses.specs.declared.form.ResponseForm.TheVariants.{Http}
 use Rattle.flat_machine.specs.Machine.{AreFilesOf, Machine, is_off}
 use Rattle.monitor_core.specs.declared.monitor.Monitor.{Monitor}
 use Rattle.monitor_core.specs.Hearing.{HearGoes}

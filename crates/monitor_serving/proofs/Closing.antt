@@ -2,6 +2,7 @@
 use Rattle.std.proofs.Common.{◌≡◌, ℕ, ◌⊎◌, inl, inr, Bool, true, false, ◌||◌, refl, sym, ap, ◌∙◌, subst, List, [], ◌∷◌, ◌++◌, if◌then◌else◌}
 use Rattle.std.specs.List.{list_any}
 use Rattle.std.proofs.lemmas.List.Folds.{list_any-append}
+use Rattle.std.proofs.lemmas.Bool.{or_right}
 use Rattle.vm_outside.specs.Known.{FilesKnown}
 use Rattle.api_rules.specs.declared.answer.Answer.{Answer}
 use Rattle.http_stream.specs.declared.request.Next.{Next}
@@ -9,7 +10,7 @@ use Rattle.http_stream.specs.declared.request.Next.TheVariants as next
 use Rattle.http_stream.specs.Conversation.{Conversation, Takes, arrived}
 use Rattle.http_stream.specs.Stream.{Connection}
 use Rattle.http_stream.proofs.CutLemmas.{request_lives}
-use Rattle.response_form.specs.Responses.{Response}
+use Rattle.responses.specs.Responses.{Response}
 use Rattle.flat_machine.specs.Items.{Talks}
 use Rattle.flat_machine.specs.Machine.{Machine}
 use Rattle.flat_machine.specs.Outcome.{Outcome}
@@ -23,15 +24,11 @@ use Rattle.monitor_serving.specs.Views.{HasClosed}
 
 -- ---- in either of two
 
-or_true : (b : Bool) → (b || true) ≡ true
-or_true true = refl
-or_true false = refl
-
 pub any_first : {A : Type 0} (p : A → Bool) (a b : List A) → list_any p a ≡ true → list_any p (a ++ b) ≡ true
 any_first p a b is = list_any-append p a b ∙ ap (λ (x : Bool). x || list_any p b) is
 
 pub any_more : {A : Type 0} (p : A → Bool) (a b : List A) → list_any p b ≡ true → list_any p (a ++ b) ≡ true
-any_more p a b is = list_any-append p a b ∙ ap (λ (x : Bool). list_any p a || x) is ∙ or_true (list_any p a)
+any_more p a b is = list_any-append p a b ∙ ap (λ (x : Bool). list_any p a || x) is ∙ or_right (list_any p a) true refl
 
 -- ---- what is due
 

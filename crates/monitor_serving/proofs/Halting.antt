@@ -7,8 +7,8 @@ use Rattle.http_stream.specs.declared.request.Next.{Next}
 use Rattle.http_stream.specs.Conversation.{Conversation, arrived}
 use Rattle.http_stream.specs.Stream.{Connection}
 use Rattle.http_stream.proofs.ConversationLemmas.{each, some_conversation}
-use Rattle.response_form.specs.declared.form.ResponseForm.TheVariants.{Http}
-use Rattle.response_form.specs.Responses.{Response}
+use Rattle.responses.specs.declared.form.ResponseForm.TheVariants.{Http}
+use Rattle.responses.specs.Responses.{Response}
 use Rattle.flat_machine.specs.Items.{Talks}
 use Rattle.flat_machine.specs.Machine.{AreFilesOf, Machine}
 use Rattle.flat_machine.specs.Outcome.{Outcome}

@@ -7,8 +7,8 @@ use Rattle.vm_host.specs.Telling.{ClockKnown}
 use Rattle.serve_host.specs.Passing.{ConnKnown, Gives, Waits}
 use Rattle.serve_host.specs.Tracing.{TraceKnown}
 use Rattle.script_text.specs.declared.item.Item.TheVariants as item
-use Rattle.response_form.specs.declared.form.ResponseForm.TheVariants.{Http}
-use Rattle.response_form.specs.Responses.{Response, all_written}
+use Rattle.responses.specs.declared.form.ResponseForm.TheVariants.{Http}
+use Rattle.responses.specs.Responses.{Response, all_written}
 use Rattle.flat_machine.specs.Items.{Talks}
 use Rattle.flat_machine.specs.Machine.{AreFilesOf, Machine, is_off, running}
 use Rattle.flat_machine.specs.Outcome.{Outcome}

@@ -2,6 +2,7 @@
 use Rattle.std.proofs.Common.{◌≡◌, ℕ, refl, sym, subst, List, [], ◌++◌, append-nil, Option, Some, None, IfSome}
 use Rattle.vm_types.specs.declared.exit.Object.TheVariants as object
 use Rattle.vm_outside.specs.Known.{Health, Lasts}
+use Rattle.vm_outside.proofs.Passing.{later_rose}
 use Rattle.flat_trace.specs.Showing.{Out}
 use Rattle.monitor_running.specs.declared.ran.Ran.{Ran}
 use Rattle.monitor_running.specs.declared.ran.Ran.TheVariants as ran
@@ -14,7 +15,6 @@ use Rattle.monitor_serving.specs.Ends.{end_of}
 use Rattle.monitor_serving.specs.Turns.{BreaksOff}
 use Rattle.monitor_serving.specs.Views.{View}
 use Rattle.monitor_serving.proofs.Slices.{untouched}
-use Rattle.monitor_serving.proofs.Turns.{rose_after}
 
 -- nothing happened, and there is no memory to go on
 pub breaks_idle : (v : View) → BreaksOff served.OutOfMemory v v
@@ -48,7 +48,7 @@ answer_cause : (end : Served) (old new : View) (mid : Health) → Lasts old.host
     → AnswerCause end new.monitor mid new.hosts.slices.trace.health old.conn new.conn → ServedCause end old new
 answer_cause served.Ended old new mid lasts cause = cause
 answer_cause (served.Fault object.Trace) old new mid lasts cause =
-    rose_after old.hosts.slices.trace.health.faults mid.faults new.hosts.slices.trace.health.faults lasts.later cause
+    later_rose old.hosts.slices.trace.health.faults mid.faults new.hosts.slices.trace.health.faults lasts.later cause
 answer_cause (served.Fault object.Source) old new mid lasts cause = absurd cause
 answer_cause (served.Fault object.Sink) old new mid lasts cause = absurd cause
 answer_cause (served.Fault object.Files) old new mid lasts cause = absurd cause

@@ -1,9 +1,10 @@
 -- One turn after another.
-use Rattle.std.proofs.Common.{◌≡◌, ℕ, ◌⊎◌, inl, inr, ◌≤◌, refl, sym, ap, ◌∙◌, subst, List, [], ◌∷◌, ◌++◌, Option, Some, None, append-nil, append_assoc, arith}
+use Rattle.std.proofs.Common.{◌≡◌, ℕ, ◌⊎◌, inl, inr, refl, sym, ap, ◌∙◌, subst, List, [], ◌∷◌, ◌++◌, Option, Some, None, append-nil, append_assoc}
 use Rattle.vm_types.specs.Causes.{Rose}
 use Rattle.vm_types.specs.declared.exit.Object.{Object}
 use Rattle.vm_types.specs.declared.exit.Object.TheVariants as object
-use Rattle.vm_outside.specs.Known.{Health, Lasts}
+use Rattle.vm_outside.specs.Known.{Lasts}
+use Rattle.vm_outside.proofs.Passing.{lasts_more, lasts_same, later_rose}
 use Rattle.serve_host.specs.Listening.{ListenerKnown, ListenerStays}
 use Rattle.serve_host.specs.Passing.{ConnKnown}
 use Rattle.flat_trace.specs.Showing.{Out, given, given_by, replied, replied_by}
@@ -91,9 +92,12 @@ module _ (s : Start) (a b c : View) (talk : List Out) (first : Continues s a b t
 -- a connection that stays open goes on
 pub open_goes : (a b : View) → StaysOpen a b → GoesOn a b
 open_goes a b stays s m talk stands = (stays s m talk stands).0
+<<<<<<< 8bde38ab
+=======
 
 pub rose_after : (i mid j : ℕ) → i ≤ mid → Rose mid j → Rose i j
 rose_after i mid j first rose = omega (arith, first, rose)
+>>>>>>> m
 
 module _ (a b c : View) (on : GoesOn a b) (conn_lasts : Lasts a.conn.health b.conn.health) where
   pub goes_on : GoesOn b c → GoesOn a c
@@ -112,7 +116,7 @@ module _ (a b c : View) (on : GoesOn a b) (conn_lasts : Lasts a.conn.health b.co
   unsent_on : (unsent : List ℕ) → (unsent ≡ []) ⊎ Rose b.conn.health.faults c.conn.health.faults
       → (unsent ≡ []) ⊎ Rose a.conn.health.faults c.conn.health.faults
   unsent_on unsent (inl none) = inl none
-  unsent_on unsent (inr rose) = inr (rose_after a.conn.health.faults b.conn.health.faults c.conn.health.faults conn_lasts.later rose)
+  unsent_on unsent (inr rose) = inr (later_rose a.conn.health.faults b.conn.health.faults c.conn.health.faults conn_lasts.later rose)
 
   by_fault : (name : Object) → ServedAs (served.Fault name) b c → ServedAs (served.Fault name) a c
   by_fault object.Trace more = breaks_on (served.Fault object.Trace) more
@@ -143,12 +147,12 @@ module _ (a b c : View) (known : AllLast a.hosts b.hosts) (conn : Lasts a.conn.h
   cause_on served.Ended (inl left) = inl (λ tells. left (conn.still tells))
   cause_on served.Ended (inr (inl failed)) = inr (inl failed)
   cause_on served.Ended (inr (inr rose)) =
-      inr (inr (rose_after a.conn.health.faults b.conn.health.faults c.conn.health.faults conn.later rose))
+      inr (inr (later_rose a.conn.health.faults b.conn.health.faults c.conn.health.faults conn.later rose))
   cause_on served.Off cause = tt
   cause_on (served.Fault object.Trace) cause =
-      rose_after a.hosts.slices.trace.health.faults b.hosts.slices.trace.health.faults c.hosts.slices.trace.health.faults known.trace.later cause
+      later_rose a.hosts.slices.trace.health.faults b.hosts.slices.trace.health.faults c.hosts.slices.trace.health.faults known.trace.later cause
   cause_on (served.Fault object.Sink) cause =
-      rose_after a.hosts.slices.sink.health.faults b.hosts.slices.sink.health.faults c.hosts.slices.sink.health.faults known.sink.later cause
+      later_rose a.hosts.slices.sink.health.faults b.hosts.slices.sink.health.faults c.hosts.slices.sink.health.faults known.sink.later cause
   cause_on (served.Fault object.Source) cause = absurd cause
   cause_on (served.Fault object.Files) cause = absurd cause
   cause_on (served.Fault object.Listener) cause = absurd cause
@@ -159,27 +163,21 @@ module _ (a b c : View) (known : AllLast a.hosts b.hosts) (conn : Lasts a.conn.h
   turned_cause_on None cause = tt
   turned_cause_on (Some end) cause = cause_on end cause
 
-pub lasts_on : (a b c : Health) → Lasts a b → Lasts b c → Lasts a c
-lasts_on a b c x y = record { still = λ tells. y.still (x.still tells); later = omega (arith, x.later, y.later) }
-
 pub all_last_on : (a b c : Hosts) → AllLast a b → AllLast b c → AllLast a c
 all_last_on a b c x y = record {
-  trace = lasts_on a.slices.trace.health b.slices.trace.health c.slices.trace.health x.trace y.trace;
+  trace = lasts_more a.slices.trace.health b.slices.trace.health c.slices.trace.health x.trace y.trace;
   trace_stays = stays_more a.slices.trace b.slices.trace c.slices.trace x.trace x.trace_stays y.trace_stays;
-  sink = lasts_on a.slices.sink.health b.slices.sink.health c.slices.sink.health x.sink y.sink;
-  files = lasts_on a.files.health b.files.health c.files.health x.files y.files;
+  sink = lasts_more a.slices.sink.health b.slices.sink.health c.slices.sink.health x.sink y.sink;
+  files = lasts_more a.files.health b.files.health c.files.health x.files y.files;
 }
 
 pub listener_on : (a b c : ListenerKnown) → Lasts a.health b.health → ListenerStays a b → ListenerStays b c → ListenerStays a c
 listener_on a b c lasts x y = λ tells. y (lasts.still tells) ∙ x tells
 
-pub lasts_self : (a : Health) → Lasts a a
-lasts_self a = record { still = λ tells. tells; later = omega arith }
-
 pub all_last_self : (a : Hosts) → AllLast a a
 all_last_self a = record {
-  trace = lasts_self a.slices.trace.health;
+  trace = lasts_same a.slices.trace.health;
   trace_stays = λ tells. refl;
-  sink = lasts_self a.slices.sink.health;
-  files = lasts_self a.files.health;
+  sink = lasts_same a.slices.sink.health;
+  files = lasts_same a.files.health;
 }

@@ -2,6 +2,7 @@
 use Rattle.std.proofs.Common.{◌≡◌, ℕ, ◌⊎◌, inl, inr, true, false, refl, sym, ◌∙◌, subst, List, [], append-nil, Option, Some, None, IfSome}
 use Rattle.vm_types.specs.declared.exit.Object.TheVariants as object
 use Rattle.vm_outside.specs.Known.{Health, Lasts, Tells}
+use Rattle.vm_outside.proofs.Passing.{later_rose}
 use Rattle.serve_host.specs.Passing.{ConnKnown, Waits}
 use Rattle.flat_machine.specs.Machine.{Machine, is_off}
 use Rattle.flat_trace.specs.Showing.{Out}
@@ -16,7 +17,6 @@ use Rattle.monitor_serving.specs.Hearing.{HearsBy}
 use Rattle.monitor_serving.specs.Turns.{Continues, EndsConnection, GoesOff, GoesOn, StaysOpen}
 use Rattle.monitor_serving.specs.Views.{Hosts, Stands, view}
 use Rattle.monitor_serving.proofs.Bringing.{waits_bring}
-use Rattle.monitor_serving.proofs.Turns.{rose_after}
 
 -- nothing but bytes is none
 pub waits_at_end : (old new : ConnKnown) (buf : List ℕ) → HearsBy heard.End old new buf → Waits old new
@@ -65,7 +65,7 @@ pub is_over_since : (monitor : Monitor) (old mid new : ConnKnown) → Lasts old.
 is_over_since monitor old mid new lasts (inl left) = inl (λ tells. left (lasts.still tells))
 is_over_since monitor old mid new lasts (inr (inl failed)) = inr (inl failed)
 is_over_since monitor old mid new lasts (inr (inr rose)) =
-    inr (inr (rose_after old.health.faults mid.health.faults new.health.faults lasts.later rose))
+    inr (inr (later_rose old.health.faults mid.health.faults new.health.faults lasts.later rose))
 
 pub answer_since : (end : Served) (monitor : Monitor) (trace traced : Health) (old mid new : ConnKnown) → Lasts old.health mid.health
     → AnswerCause end monitor trace traced mid new → AnswerCause end monitor trace traced old new

@@ -1,40 +1,17 @@
 -- How a frame goes on from piece to piece.
-use Rattle.std.proofs.Common.{◌≡◌, ℕ, zero, suc, ◌+◌, ◌-◌, ◌%◌, ◌^◌, ◌==◌, ◌<◌, ◌≤◌, Bool, true, false, if◌then◌else◌, List, [], ◌∷◌, drop, refl, sym, ap, ◌∙◌, arith}
-use Rattle.std.proofs.lemmas.Bool.{eq-eqb, eqb-true}
+use Rattle.std.proofs.Common.{◌≡◌, ℕ, zero, suc, ◌-◌, ◌==◌, ◌<◌, Bool, true, false, if◌then◌else◌, List, drop, refl, sym, ap, ◌∙◌, arith}
+use Rattle.std.proofs.lemmas.Bool.{eq-eqb}
 use Rattle.vm_types.specs.declared.op.Op.TheVariants.{Read, Out}
 use Rattle.vm_types.specs.declared.op.OutOp.TheVariants.{LinkEnd}
 use Rattle.device_trace.specs.Doing.{Doing, Gives, Wants}
 use Rattle.vq_split.specs.declared.queue.Part.{Part}
 use Rattle.vq_split.specs.Chain.{read_bytes}
 use Rattle.dev_core.specs.Pieces.{past, place, room, total}
+use Rattle.dev_core.proofs.Totals.{total_past}
+use Rattle.dev_core.proofs.Fuel.{none_of, some_of}
 use Rattle.net_device.specs.Frames.{piece_sent, sending, sending_all}
 
--- ---- the parts behind a piece
-
-abbrev cut : Part → ℕ → List Part → List Part
-cut part n parts = record { at = (part.at + n) % 2 ^ 64; len = part.len - n; writable = part.writable } ∷ parts
-
-past_by : (part : Part) (parts : List Part) (n : ℕ) (whole : Bool) → (part.len == n) ≡ whole → n ≤ part.len
-    → total (past n (part ∷ parts)) + n ≡ part.len + total parts
-past_by part parts n true is few =
-    let same : part.len ≡ n = eqb-true part.len n is in
-    ap (λ (t : Bool). total (if t then parts else cut part n parts) + n) is ∙ omega (arith, same)
-past_by part parts n false is few =
-    ap (λ (t : Bool). total (if t then parts else cut part n parts) + n) is ∙ omega (arith, few)
-
-past_total : (parts : List Part) → total (past (room parts) parts) + room parts ≡ total parts
-past_total [] = refl
-past_total (part ∷ parts) =
-    past_by part parts (room (part ∷ parts)) (part.len == room (part ∷ parts)) refl (omega arith)
-
 -- ---- a frame that is sent
-
-some : (n : ℕ) → (n == 0) ≡ false → 0 < n
-some zero is = absurd (let k : true ≡ false = is in cc)
-some (suc n) is = omega arith
-
-none : (n : ℕ) → 0 < n → (n == 0) ≡ false
-none n is = grind arith
 
 abbrev ended : Doing (Unit {0})
 ended = Wants (Out LinkEnd) (λ reply. Gives tt)
@@ -59,7 +36,7 @@ by_room f g skip parts true is again =
     ∙ sym (ap (λ (t : Bool). if t then ended else piece_read g skip parts) is)
 by_room f g skip parts false is again =
     ap (λ (t : Bool). if t then ended else piece_read f skip parts) is
-    ∙ piece_alike f g skip parts (again (some (room parts) is))
+    ∙ piece_alike f g skip parts (again (some_of (room parts) is))
     ∙ sym (ap (λ (t : Bool). if t then ended else piece_read g skip parts) is)
 
 -- as many as there are bytes are enough
@@ -68,8 +45,8 @@ enough zero g skip parts a b = absurd (omega (arith, a))
 enough (suc f) zero skip parts a b = absurd (omega (arith, b))
 enough (suc f) (suc g) skip parts a b =
     by_room f g skip parts (room parts == 0) refl (λ there.
-    enough f g (skip - room parts) (past (room parts) parts) (omega (arith, a, there, past_total parts))
-    (omega (arith, b, there, past_total parts)))
+    enough f g (skip - room parts) (past (room parts) parts) (omega (arith, a, there, total_past (room parts) parts (omega arith)))
+    (omega (arith, b, there, total_past (room parts) parts (omega arith))))
 
 pub sent_end : (skip : ℕ) (parts : List Part) → room parts ≡ 0 → sending_all skip parts ≡ ended
 sent_end skip parts is =
@@ -79,7 +56,7 @@ pub sent_more : (skip : ℕ) (parts : List Part) → 0 < room parts
     → sending_all skip parts ≡ Wants (Read (place parts) (room parts)) (λ reply.
     piece_sent (drop skip (read_bytes (room parts) reply)) (sending_all (skip - room parts) (past (room parts) parts)))
 sent_more skip parts there =
-    ap (λ (t : Bool). if t then ended else piece_read (total parts) skip parts) (none (room parts) there)
+    ap (λ (t : Bool). if t then ended else piece_read (total parts) skip parts) (none_of (room parts) there)
     ∙ piece_alike (total parts) (suc (total (past (room parts) parts))) skip parts
     (enough (total parts) (suc (total (past (room parts) parts))) (skip - room parts) (past (room parts) parts)
-    (omega (arith, there, past_total parts)) (omega arith))
+    (omega (arith, there, total_past (room parts) parts (omega arith))) (omega arith))

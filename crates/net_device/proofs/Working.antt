@@ -8,7 +8,7 @@ use Rattle.vm_types.specs.declared.reply.Reply.TheVariants.{Bytes}
 use Rattle.device_trace.specs.Doing.{Doing, led}
 use Rattle.vq_split.specs.declared.queue.Part.{Part}
 use Rattle.dev_core.specs.Pieces.{past, place, put_all, room, share}
-use Rattle.dev_core.proofs.Fuel.{put_done, put_more}
+use Rattle.dev_core.proofs.Fuel.{put_done, put_more, some_of}
 use Rattle.vq_split.specs.Chain.{read_bytes}
 use Rattle.queue_device.specs.declared.kind.Begin.TheVariants as begin
 use Rattle.queue_device.specs.Acting.{Acts, performing}
@@ -47,10 +47,6 @@ share_is bytes at len space to long there =
     ap (λ (n : ℕ). min (n - at) space) long ∙ ap (λ (n : ℕ). min (length bytes - at) n) there
     ∙ ap (λ (n : ℕ). min n (room to)) (sym (length-drop at bytes))
 
-some_share : (n : ℕ) → (n == 0) ≡ false → 0 < n
-some_share zero is = absurd (let k : true ≡ false = is in cc)
-some_share (suc n) is = omega arith
-
 pub fills : (bytes : List ℕ) (at len space whole : ℕ) (to : List Part) (e : Net) → len ≡ length bytes → space ≡ room to
     → (min (len - at) space == 0) ≡ false
     → performing (put_all (drop at bytes) to) e (λ f left. written whole f)
@@ -58,7 +54,7 @@ pub fills : (bytes : List ℕ) (at len space whole : ℕ) (to : List Part) (e : 
     (λ f reply. performing (led (put_all (drop at bytes) to) reply) f (λ g left. written whole g))
 fills bytes at len space whole to e long there is =
     let same = share_is bytes at len space to long there in
-    let some = some_share (share (drop at bytes) to) (ap (λ (n : ℕ). n == 0) (sym same) ∙ is) in
+    let some = some_of (share (drop at bytes) to) (ap (λ (n : ℕ). n == 0) (sym same) ∙ is) in
     rw (put_more (drop at bytes) to some) refl
 
 pub filled : (bytes : List ℕ) (at len space whole : ℕ) (to : List Part) (e : Net) → len ≡ length bytes → space ≡ room to
@@ -73,7 +69,7 @@ pub fill_wants : (bytes : List ℕ) (len space whole n : ℕ) (to : List Part) (
     → begin_of (performing (put_all bytes to) e (λ f left. written whole f)) ≡ begin.Wants (Write (place to) (take n (drop 0 bytes)))
 fill_wants bytes len space whole n to e long there same is =
     let share_same : share bytes to ≡ n = ap (λ (m : ℕ). min m (room to)) (sym long) ∙ ap (λ (m : ℕ). min len m) (sym there) ∙ sym same in
-    let some = some_share (share bytes to) (ap (λ (m : ℕ). m == 0) share_same ∙ is) in
+    let some = some_of (share bytes to) (ap (λ (m : ℕ). m == 0) share_same ∙ is) in
     ap (λ (t : Doing (List Part)). begin_of (performing t e (λ f left. written whole f))) (put_more bytes to some)
     ∙ ap (λ (m : ℕ). begin.Wants (Write (place to) (take m bytes))) share_same
 

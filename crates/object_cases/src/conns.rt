@@ -1,8 +1,7 @@
 // Connections in memory: one comes, speaks and ends, and another ends at once. The third call on the first one fails, and of
 // the listener the second listen and the first accept.
 use crate::showing::{Shown, found, text_of};
-use host_mem::{MemoryCaller, MemoryConn, MemoryListener, Past};
-use outside_mem::Failing;
+use outside_mem::{Failing, MemoryCaller, MemoryConn, MemoryListener, Past};
 use serve_host::{Accepted, Conn, Listener, put_all};
 use std::alloc::{AllocError, Global};
 use std::collections::VecDeque;

@@ -1,7 +1,6 @@
 // A disk that begins with 64 bytes, a link and a vsock host in memory, of which each has a call that fails.
 use crate::showing::{Shown, alike, part_of, text_of};
-use host_mem::{Frame, MemoryDisk, MemoryLink, MemoryVsock, MemoryWire};
-use outside_mem::Failing;
+use outside_mem::{Failing, Frame, MemoryDisk, MemoryLink, MemoryVsock, MemoryWire};
 use std::alloc::{AllocError, Global};
 use std::collections::VecDeque;
 use vm_host::{Attached, Disk, DiskCall, HostEvent, Link, VsockHost};

@@ -1,7 +1,6 @@
 // A trace, words and a clock in memory.
 use crate::showing::Shown;
-use host_mem::{MemoryClock, MemoryTrace, MemoryWords, Numbers, SteadyWords};
-use outside_mem::Failing;
+use outside_mem::{Failing, MemoryClock, MemoryTrace, MemoryWords, Numbers, SteadyWords};
 use script_text::Item;
 use serve_host::{Trace, Words};
 use std::alloc::{AllocError, Global};

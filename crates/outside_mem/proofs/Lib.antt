@@ -1,1 +1,5 @@
+pub mod Giving
+pub mod Naming
 pub mod ReadPieces
+pub mod Steps
+pub mod Wires

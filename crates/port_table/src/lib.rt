@@ -14,4 +14,4 @@ pub use kind::{DeviceKind, Feature};
 pub use law::{port_kept, port_stays};
 pub use register::{Register, register_at};
 pub use state::{PortQueue, PortState};
-pub use window::{PORT_SIZE, PORTS_START, port_at};
+pub use window::{MOST_DEVICES, PORT_SIZE, PORTS_START, port_at};

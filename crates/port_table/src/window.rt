@@ -13,6 +13,9 @@ pub const PORT_SIZE: u64 = 4096;
 /// The most ports that there are, one for each line of the board.
 pub const MOST_PORTS: u64 = 16;
 
+/// The most devices that a guest has, each with a port.
+pub const MOST_DEVICES: usize = 16;
+
 /// The number of the port that has all of these bytes, one at least, or `None` where none has.
 pub fn port_at(at: GuestAddr, len: usize) -> Option<u8>
     ensures { result ≡ window.port_at at len }

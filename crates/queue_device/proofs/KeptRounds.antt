@@ -1,7 +1,13 @@
 -- Rounds that may be kept: what a look, a chain and a round's end leave of them.
+<<<<<<< 8bde38ab
+use Rattle.std.proofs.Common.{◌≡◌, ℕ, ◌==◌, refl, sym, subst, ◌∙◌, Bool, true, false, not, if◌then◌else◌, Option, Some, None, is_some, arith}
+use Rattle.std.specs.Prelude.{IfSome}
+use Rattle.std.proofs.lemmas.Bool.{and_from, and_parts, or_right}
+=======
 use Rattle.std.proofs.Common.{◌≡◌, ℕ, ◌==◌, refl, sym, subst, ◌∙◌, Bool, true, false, ◌||◌, not, if◌then◌else◌, Option, Some, None, is_some, arith}
 use Rattle.std.specs.Prelude.{IfSome}
 use Rattle.std.proofs.lemmas.Bool.{and_from, and_parts}
+>>>>>>> m
 use Rattle.vm_types.specs.declared.port_look.PortLook.{PortLook}
 use Rattle.vm_types.specs.declared.port_look.QueueShown.{QueueShown}
 use Rattle.vm_types.specs.declared.reply.Reply.{Reply}
@@ -34,13 +40,9 @@ own_closed times false l is =
     let p0 = and_parts (not (is_some l.queue)) (not (is_some l.waiting)) p1.0 in
     and_from _ _ (and_from _ _ (and_from _ _ p0.1 p1.1) p2.1) p3.1
 
-pub or_true : (times : Bool) → (times || true) ≡ true
-or_true true = refl
-or_true false = refl
-
 own_reset : (times was_reset : Bool) (l : Lane) → is_own_lane times true l ≡ true
     → is_own_lane times true (lane_reset was_reset l) ≡ true
-own_reset times true l is = or_true times
+own_reset times true l is = or_right times true refl
 own_reset times false l is = is
 
 own_seen : (times has : Bool) (pages : ℕ) (look : PortLook) (shown : QueueShown) (l : Lane)
@@ -172,7 +174,7 @@ module _ {E : Type 0} (s : Service E) (times : Bool) where
       (own_seen times _ r.pages look look.third r.third (own_lane Third r are))
 
   own_new : (has : Bool) → is_own_lane times has new_lane ≡ true
-  own_new true = or_true times
+  own_new true = or_right times true refl
   own_new false = refl
 
   pub new_own : (port pages : ℕ) → are_own_lanes s times (new_rounds port pages) ≡ true

@@ -21,9 +21,6 @@ use Rattle.dev_core.proofs.Inside.{filter_inside, past_inside}
 use Rattle.queue_device.specs.Sizes.{IsSmallReply}
 use Rattle.queue_device.proofs.Spilling.{spill_on}
 
-pub is_some_of : (n : ℕ) → (n == 0) ≡ false → 0 < n
-is_some_of n is = grind arith
-
 -- what is short of so many bytes, and may read more
 pub more_of : (need n space : ℕ) → ((need - n == 0) || (space == 0)) ≡ false → (n < need) × (0 < space)
 more_of need n space is = (grind arith, grind arith)

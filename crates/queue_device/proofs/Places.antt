@@ -25,7 +25,7 @@ same_queue q =
 pub of_shown : (shown : Option Queue) (q : Queue) → shown ≡ Some q → is_of_round shown q ≡ true
 of_shown shown q is = subst (λ (o : Option Queue). is_of_round o q ≡ true) (sym is) (same_queue q)
 
-round_some : (shown : Option Queue) (q : Queue) → is_of_round shown q ≡ true → is_some shown ≡ true
+pub round_some : (shown : Option Queue) (q : Queue) → is_of_round shown q ≡ true → is_some shown ≡ true
 round_some None q is = cc
 round_some (Some own) q is = refl
 

@@ -1,5 +1,6 @@
 -- Where a reply leads a walk: it goes on, or it comes to something.
 use Rattle.std.proofs.Common.{◌≡◌, ℕ, zero, suc, ◌+◌, ◌-◌, ◌*◌, ◌%◌, ◌^◌, ◌==◌, ◌<◌, ◌≤◌, nat_le, nat_lt, refl, ap, subst, Bool, true, false, if◌then◌else◌, List, [], ◌∷◌, length, length-append, arith, Option, Some, None, ◌⊎◌, inl, inr}
+use Rattle.std.proofs.lemmas.Bool.{and_parts}
 use Rattle.vm_types.specs.declared.op.Op.TheVariants.{Read}
 use Rattle.vm_types.specs.declared.reply.Reply.{Reply}
 use Rattle.device_trace.specs.Doing.{Doing, Gives, asked, led}
@@ -16,7 +17,7 @@ use Rattle.vq_split.specs.Chain.{described_by, descriptor_flaw, descriptor_of, d
 use Rattle.vq_split.specs.Inside.{AreInside}
 use Rattle.vq_split.specs.Kept.{IsWalking, is_stage, is_walking}
 use Rattle.vq_split.specs.Walking.{IsSound, IsStage, Walking, left_at, op_at, walk_left, walk_wants}
-use Rattle.vq_split.proofs.Inside.{both, next_fits, part_inside}
+use Rattle.vq_split.proofs.Inside.{next_fits, part_inside}
 use Rattle.vq_split.proofs.Kept.{test_of_walking}
 use Rattle.vq_split.proofs.Steps.{told_link}
 use Rattle.queue_device.specs.Sizes.{IsHead, IsNarrowStage}
@@ -128,13 +129,13 @@ asks_at : (s : Stage) (q : Queue) (next : ℕ) (parts : List Part) → is_stage 
 asks_at Index q next parts is = refl
 asks_at Ring q next parts is = refl
 asks_at (Link head at) q next parts is =
-    let h = both (nat_lt at q.size) (nat_lt (length parts) q.size) is in
+    let h = and_parts (nat_lt at q.size) (nat_lt (length parts) q.size) is in
     let room : length parts < q.size = grind (arith, h.1) in
     link_asks q head (q.size - length parts) at parts (omega (arith, room))
 
 -- a walk has something left to want, by its test alone
 pub test_asks : (w : Walking) → is_walking w ≡ true → asked (walk_left w) ≡ Some (walk_wants w)
-test_asks w is = asks_at w.stage w.queue w.next w.parts (both _ _ (both _ _ is).0).1
+test_asks w is = asks_at w.stage w.queue w.next w.parts (and_parts _ _ (and_parts _ _ is).0).1
 
 pub walk_asks : (w : Walking) → IsWalking w → asked (walk_left w) ≡ Some (walk_wants w)
 walk_asks w is = test_asks w (test_of_walking w is)

@@ -1,5 +1,5 @@
 -- The widths of what is kept of a device with queues, and of what it is replied.
-<<<<<<< f4895c43
+<<<<<<< 8bde38ab
 use Rattle.std.specs.Prelude.{◌≡◌, ◌<◌, ◌≤◌, ◌^◌, ℕ, Bool, true, Option, Some, None, IfSome, length}
 =======
 use Rattle.std.specs.Prelude.{◌≡◌, ◌<◌, ◌^◌, ℕ, Bool, true, Option, Some, None, IfSome}
@@ -17,7 +17,7 @@ use Rattle.queue_device.specs.declared.lanes.Lane.{Lane}
 use Rattle.queue_device.specs.declared.phase.Phase.{Phase}
 use Rattle.queue_device.specs.declared.phase.Phase.TheVariants as phase
 
-<<<<<<< f4895c43
+<<<<<<< 8bde38ab
 -- ---- a reply: bytes, numbers of 64 bits, numbers of connections of 32, and queues whose sizes have 16
 =======
 -- ---- a reply: bytes, numbers of 64 bits, and queues whose sizes have 16
@@ -33,7 +33,7 @@ abbrev pub IsSmallReply : Reply → Type 0
 IsSmallReply (Reply.Word value) = value < 2 ^ 64
 IsSmallReply (Reply.Bytes piece) = All IsByte piece
 IsSmallReply (Reply.Port look) = IsSmallShown look.first × IsSmallShown look.second × IsSmallShown look.third
-<<<<<<< f4895c43
+<<<<<<< 8bde38ab
 IsSmallReply (Reply.Opened connection) = connection < 2 ^ 32
 IsSmallReply (Reply.Received piece connection) = (length piece ≤ 64) × All IsByte piece × (connection < 2 ^ 32)
 IsSmallReply (Reply.Dialled connection) = connection < 2 ^ 32

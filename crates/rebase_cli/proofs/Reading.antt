@@ -2,7 +2,11 @@
 use Rattle.std.proofs.Common.{◌≡◌, ◌∙◌, ◌||◌, ◌⊎◌, inl, inr, Bool, true, false, not, cond, refl, sym, ap, subst, List, [], ◌∷◌, Option, Some, None, option_map, option_and_then, bytes_eq, codes, true≢false}
 use Rattle.std.specs.List.{list_any}
 use Rattle.std.proofs.lemmas.Slice.Eq.{bytes_eq-Decides}
+<<<<<<< 8bde38ab
+use Rattle.std.proofs.lemmas.Bool.{not-true, or_parts}
+=======
 use Rattle.std.proofs.lemmas.Bool.{or_parts}
+>>>>>>> m
 use Rattle.clap.specs.Faults.{fault_of, is_simple_and_free}
 use Rattle.clap.specs.Kinds.{Kinds}
 use Rattle.clap.specs.Simple.{Shape, subcommand_of, subcommand_rows_of}
@@ -52,20 +56,16 @@ map_then f g (Some x) = refl
 
 -- ---- both options are required
 
-was_not : (b : Bool) → not b ≡ true → b ≡ false
-was_not true e = absurd (true≢false (sym e))
-was_not false e = refl
-
 either_lost : (first second : Text) (given : List Given) → (not (is_given first given) || (not (is_given second given) || false)) ≡ true
     → (value_of first given ≡ None) ⊎ (value_of second given ≡ None)
 either_lost first second given e = by (or_either (not (is_given first given)) (not (is_given second given) || false) e)
   where
     behind : (not (is_given second given) ≡ true) ⊎ (false ≡ true) → (value_of first given ≡ None) ⊎ (value_of second given ≡ None)
-    behind (inl here) = inr (not_given second given (was_not (is_given second given) here))
+    behind (inl here) = inr (not_given second given (not-true (is_given second given) here))
     behind (inr never) = absurd (true≢false (sym never))
 
     by : (not (is_given first given) ≡ true) ⊎ ((not (is_given second given) || false) ≡ true) → (value_of first given ≡ None) ⊎ (value_of second given ≡ None)
-    by (inl here) = inl (not_given first given (was_not (is_given first given) here))
+    by (inl here) = inl (not_given first given (not-true (is_given first given) here))
     by (inr there) = behind (or_either (not (is_given second given)) false there)
 
 no_diff : (base : Option Text) → names_by base None ≡ None

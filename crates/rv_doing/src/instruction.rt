@@ -9,8 +9,8 @@ use crate::hart_op::HartOp;
 use crate::hart_reply::HartReply;
 use crate::replies::{end_amo, end_conditional, end_load, end_reserve, end_store, end_with};
 use crate::sbi::{call_performed, call_wanted};
+use rv_alu::effect;
 use rv_decode::decode;
-use rv_effect::effect;
 use rv_rows::{Effect, Exception, Instr};
 use rv_supervisor::{Regs, finish, jump, return_from_trap, trap, wait};
 

@@ -10,10 +10,9 @@ ghost use Rattle.rv_doing.specs.Does.{does};
 ghost use Rattle.rv_doing.specs.Plain.{LeadsTo, PutsAt};
 
 use crate::values;
-use rv_alu::is_taken;
+use rv_alu::{even, is_taken};
 use rv_decode::function_fields::opcode;
 use rv_decode::{groups, operations};
-use rv_effect::even;
 use rv_rows::fields::{b_immediate, rd, rs1, rs2};
 use rv_rows::{Instr, Register};
 use rv_supervisor::{Regs, jump};

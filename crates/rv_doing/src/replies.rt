@@ -5,8 +5,7 @@ ghost use Rattle.rv_doing.specs.HartOps.{reply_of};
 ghost use Rattle.rv_doing.specs.Replies.{with_result, after_load, after_store, after_reserve, after_conditional, after_amo, after_time, after_sip};
 
 use crate::hart_reply::HartReply;
-use rv_alu::{atomic_load_value, load_value};
-use rv_effect::low_bytes;
+use rv_alu::{atomic_load_value, load_value, low_bytes};
 use rv_rows::{Exception, LoadKind, Register};
 use rv_supervisor::{INTERRUPTS, Regs, finish, trap};
 

@@ -1,6 +1,5 @@
 // Connections of two callers, and the listener that gives them.
-use host_mem::{MemoryCaller, MemoryConn};
-use outside_mem::Failing;
+use outside_mem::{Failing, MemoryCaller, MemoryConn};
 use serve_host::{Accepted, Conn, Got, Listener};
 use std::alloc::{AllocError, Global};
 use vm_outside::Failed;

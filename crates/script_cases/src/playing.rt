@@ -7,7 +7,7 @@ use http_stream::{HeaderList, Request};
 use monitor_machine::LiveMachine;
 use outside_mem::{Failing, MemoryFiles};
 use pause_gate::{Gate, HoldGate};
-use response_form::ResponseForm;
+use responses::ResponseForm;
 use script_text::{HostReply, Item, LineReader, Next, write_item};
 use serve_host::{Trace, event_item};
 use std::alloc::{AllocError, Global};

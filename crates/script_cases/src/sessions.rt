@@ -3,10 +3,11 @@ use crate::doors::{Door, Line};
 use crate::showing::{text_of, words_of};
 use crate::ticking::Ticks;
 use firecracker_cli::{ServeOutside, firecracker_main};
-use host_mem::{MemoryDisk, MemoryTrace, Numbers, SteadyWords};
 use monitor_cli::{Outside, replay_main};
 use monitor_running::TracedHost;
-use outside_mem::{Failing, MemoryFiles, MemorySink, MemorySource};
+use outside_mem::{
+    Failing, MemoryDisk, MemoryFiles, MemorySink, MemorySource, MemoryTrace, Numbers, SteadyWords,
+};
 use script_text::{Item, write_item};
 use std::alloc::{AllocError, Global};
 use std::io;

@@ -8,10 +8,9 @@ use crate::images::{
 use crate::playing::{NOBODY, Player, are_alike, machine_of, play_all, word_at};
 use crate::showing::text_of;
 use crate::ticking::Ticks;
-use host_mem::MemoryDisk;
 use monitor_machine::LiveMachine;
 use monitor_running::{Ran, TracedHost, run_while};
-use outside_mem::{Failing, MemorySink};
+use outside_mem::{Failing, MemoryDisk, MemorySink};
 use pause_gate::{FlagGate, Gate, HoldGate, Party, Pass};
 use std::alloc::{AllocError, Global};
 use std::io;

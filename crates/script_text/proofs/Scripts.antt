@@ -23,7 +23,7 @@ use Rattle.script_words.proofs.Forms.{address_is_hex}
 use Rattle.script_words.proofs.Lacking.{lacks_failing}
 use Rattle.script_text.proofs.LineWrites.{item_writes}
 
-join : (a b : List ℕ) → Lacks 10 a → Lacks 10 b → Lacks 10 (a ++ b)
+pub join : (a b : List ℕ) → Lacks 10 a → Lacks 10 b → Lacks 10 (a ++ b)
 join a b first second = All-append (λ (d : ℕ). d ≢ 10) a b first second
 
 above : ℕ → Bool
@@ -38,7 +38,7 @@ space : Lacks 10 (32 ∷ [])
 unfolding above
 space = plain (32 ∷ []) refl
 
-decimal_lacks : (n : ℕ) → n < 2 ^ 64 → Lacks 10 (decimal n)
+pub decimal_lacks : (n : ℕ) → n < 2 ^ 64 → Lacks 10 (decimal n)
 decimal_lacks n small = lacks_failing is_digit 10 (decimal n) refl (decimal_digits n small)
 
 high : (n : ℕ) → hex_digit n ≢ 10

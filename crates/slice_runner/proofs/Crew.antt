@@ -15,8 +15,8 @@ use Rattle.stamp_merge.specs.declared.layout.Layout.{Layout}
 use Rattle.stamp_merge.specs.Journals.{AreOwn, all_of, journal_at}
 use Rattle.stamp_merge.specs.Legal.{AreFollowed}
 use Rattle.stamp_merge.specs.Merged.{journals_of}
-use Rattle.stamp_merge.specs.Order.{Climbs}
 use Rattle.stamp_merge.specs.Stamps.{AreStamped, OutIsZero, Stamped}
+use Rattle.stamp_merge.proofs.Stamps.{Climbs-from_stamped}
 use Rattle.slice_runner.specs.declared.worker.HartWorker.{HartWorker}
 use Rattle.slice_runner.specs.declared.worker.TimerWorker.{TimerWorker}
 use Rattle.slice_runner.specs.Runs.{HasRun}
@@ -26,10 +26,6 @@ use Rattle.slice_runner.specs.Slices.{IsThere}
 
 abbrev pub Journals : Type 0
 Journals = List (ActorId × List Entry)
-
-pub climbs_from : (last : ℕ) (es : List Entry) → Stamped last es → Climbs last es
-climbs_from last [] h = tt
-climbs_from last (e ∷ es) h = (omega (arith, h.0), climbs_from e.stamp es h.1)
 
 append_all : (P : Entry → Type 0) (xs ys : List Entry) → AllByRecursion P xs → AllByRecursion P ys → AllByRecursion P (xs ++ ys)
 append_all P [] ys h k = k
@@ -212,7 +208,7 @@ module _ {Q : Type 0} (layout : Layout) (t : Timer) (hs : List Hart) (u : TimerW
   pub are_followed : AreFollowed actor_wants actor_next (route_among layout) OutFits (actor_among t hs) (actor_among u.timer (harts_of vs)) js
   are_followed = record {
     own = own;
-    climb = λ a. climbs_from 0 (journal_at a js) (stamped a);
+    climb = λ a. Climbs-from_stamped 0 (journal_at a js) (stamped a);
     follow = follow;
     placed = all (IsPlaced (route_among layout) OutFits) ran.placed (λ h v n lt r. r.placed);
   }

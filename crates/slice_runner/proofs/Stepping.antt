@@ -31,6 +31,7 @@ use Rattle.flat_guest.specs.Places.{place_of}
 use Rattle.flat_guest.specs.Steps.{FlatStep, board_after, guest_after, is_given, port_after, port_reply, ports_after, written_after}
 use Rattle.flat_guest.proofs.Marked.{marks_on}
 use Rattle.flat_guest.proofs.Stepping.{entry_of}
+use Rattle.flat_guest.proofs.Devices.{port_many}
 use Rattle.vm_world.specs.Worlds.{IsWorld, MakesEvent, WorldValue, place_in, want_in}
 use Rattle.vm_world.proofs.Events.{event_made, place_access}
 use Rattle.slice_runner.specs.Slices.{IsThere, event_of, given_of}
@@ -128,12 +129,6 @@ given_none layout (Op.Sc at value wide) reply inner = refl
 given_none layout (Op.Port port act) reply inner = refl
 given_none layout (Op.Board act) reply inner = refl
 given_none layout Op.Idle reply inner = refl
-
--- an act leaves as many ports
-ports_kept : (o : Option PortState) (ports : List PortState) (k : ℕ) (actor : ActorId) (op : Op)
-    → length (port_after o ports k actor op) ≡ length ports
-ports_kept None ports k actor op = refl
-ports_kept (Some p) ports k actor op = length-set ports k (port.touch p actor op).1
 
 -- an entry is a step from one world to another
 pub record Steps (w : WorldValue) (e : Entry) : Type 0 where
@@ -234,7 +229,7 @@ module _ (w : WorldValue) (are : ArePages 0 w.pages) (actor : ActorId) (op : Op)
             (given_none (layout_in w) op reply inner) (routed (PlaceId.Port k) is)
             (answer ∙ ap (λ (o : Option PortState). port_reply o actor op) (sym some)) refl refl refl refl refl refl (sym idle);
         pages = are;
-        layout = λ j. record { pages = length w.pages; ports = ports_kept (slice_get w.ports k) w.ports k actor op j };
+        layout = λ j. record { pages = length w.pages; ports = port_many (slice_get w.ports k) w.ports k actor op j };
         marks = follows (PlaceId.Port k) refl;
         places = λ j p. at_port there some p j;
       }

@@ -128,7 +128,7 @@ module _ (b : QueueRounds Kept) (is : is_state b ≡ true) (few : b.rounds.pages
     (short : AreShort true b.rounds) (narrow : IsNarrowPhase b.phase) (small : IsSmallStage b.kind.stage)
     (own : IsSizedData true b.kind.own) where
   parts : TestParts balloons.balloon true is_work b.phase b.rounds b.kind.stage
-<<<<<<< f4895c43
+<<<<<<< 8bde38ab
   parts = facts balloons.balloon true is_work b.phase b.rounds b.kind.stage is few port short
 =======
   parts = facts balloons.balloon is_work b.phase b.rounds b.kind.stage is few port short
@@ -140,7 +140,7 @@ module _ (b : QueueRounds Kept) (is : is_state b ≡ true) (few : b.rounds.pages
       let kept = stage_fits b.rounds.pages few (work_of b.phase) b.kind.stage parts.works small in
       let small_own = own refl in (
         (
-<<<<<<< f4895c43
+<<<<<<< 8bde38ab
           rounds_fit balloons.balloon true is_work b.phase b.rounds b.kind.stage is few port short,
           (
             place_fits balloons.balloon true is_work b.phase b.rounds b.kind.stage is few port short b.phase parts.place narrow,

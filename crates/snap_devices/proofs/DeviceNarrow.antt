@@ -6,7 +6,7 @@ use Rattle.snap_devices.specs.Devices.{device}
 use Rattle.snap_devices.proofs.Narrow.{HoldsBlock, block_is}
 use Rattle.snap_devices.proofs.BalloonNarrow.{HoldsBalloon, balloon_is}
 use Rattle.snap_devices.proofs.NetNarrow.{HoldsNet, net_is}
-<<<<<<< f4895c43
+<<<<<<< 8bde38ab
 use Rattle.snap_devices.proofs.VsockNarrow.{HoldsVsock, vsock_is}
 =======
 >>>>>>> m
@@ -15,7 +15,7 @@ use Rattle.snap_devices.proofs.VsockNarrow.{HoldsVsock, vsock_is}
 abbrev pub HoldsBytes : Device → Type 0
 HoldsBytes (kept.Block b) = HoldsBlock b
 HoldsBytes (kept.Net n) = HoldsNet n
-<<<<<<< f4895c43
+<<<<<<< 8bde38ab
 HoldsBytes (kept.Vsock v) = HoldsVsock v
 =======
 >>>>>>> m
@@ -24,7 +24,7 @@ HoldsBytes (kept.Balloon b) = HoldsBalloon b
 pub device_narrow : (d : Device) → device.Fits d → HoldsBytes d → IsNarrowKept d
 device_narrow (kept.Block b) own bytes = block_is b own bytes
 device_narrow (kept.Net n) own bytes = net_is n own bytes
-<<<<<<< f4895c43
+<<<<<<< 8bde38ab
 device_narrow (kept.Vsock v) own bytes = vsock_is v own bytes
 =======
 >>>>>>> m

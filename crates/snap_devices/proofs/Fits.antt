@@ -34,7 +34,7 @@ use Rattle.block_device.specs.Working.{IsAt, IsSizedData, IsSmallAt, IsSmallStag
 use Rattle.queue_device.proofs.Pieces.{total_most}
 use Rattle.guest_devices.specs.declared.device.Device.{Device}
 use Rattle.guest_devices.specs.declared.device.Device.TheVariants as kept
-<<<<<<< f4895c43
+<<<<<<< 8bde38ab
 use Rattle.guest_devices.specs.Kept.{device_pages, device_port, is_kept, is_saved, is_sized, kept_of, is_state_kept}
 =======
 use Rattle.guest_devices.specs.Kept.{device_pages, device_port, is_kept, is_sized, kept_of, is_state_kept}
@@ -53,7 +53,7 @@ use Rattle.snap_devices.proofs.Forms.{stands}
 use Rattle.snap_devices.proofs.PieceFits.{begun_fits, break_fits, collect_fits, hand_fits, parts_fit, queue_fits, return_fits, shown_of, waiting_fits}
 use Rattle.snap_devices.proofs.LimitsFits.{bucket_by}
 use Rattle.snap_devices.proofs.NetFits.{net_fits}
-<<<<<<< f4895c43
+<<<<<<< 8bde38ab
 use Rattle.snap_devices.proofs.VsockFits.{vsock_fits}
 =======
 >>>>>>> m
@@ -233,7 +233,7 @@ module _ (b : QueueRounds BlockKind) (is : is_state b ≡ true) (few : b.rounds.
         ),
       )
 
-<<<<<<< f4895c43
+<<<<<<< 8bde38ab
 -- a device that the code may keep and a file may have, of such a guest
 pub device_fits : (d : Device) → is_kept d ≡ true → is_saved d ≡ true → IsNarrowKept d → device_pages d ≤ 2 ^ 18
     → device_port d < 2 ^ 8 → device.Fits d

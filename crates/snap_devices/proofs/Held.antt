@@ -19,7 +19,7 @@ use Rattle.net_device.specs.declared.kind.Stage as net
 use Rattle.net_device.specs.declared.kind.Stage.TheVariants as net_at
 use Rattle.net_device.specs.Work as net_work
 use Rattle.snap_devices.specs.Nets as nets
-<<<<<<< f4895c43
+<<<<<<< 8bde38ab
 use Rattle.vsock_device.specs.declared.data.InHand.{InHand}
 use Rattle.vsock_device.specs.declared.data.InHand.TheVariants as hand
 use Rattle.vsock_device.specs.declared.kind.Stage as vsock
@@ -48,7 +48,7 @@ use Rattle.snap_devices.proofs.BalloonNarrow.{HoldsBalloon, HoldsStage}
 use Rattle.snap_devices.proofs.DeviceNarrow.{HoldsBytes}
 use Rattle.snap_devices.proofs.RoundsNarrow.{AreAllHeld}
 use Rattle.snap_devices.proofs.NetNarrow.{HoldsNet, HoldsPiece}
-<<<<<<< f4895c43
+<<<<<<< 8bde38ab
 use Rattle.snap_devices.proofs.VsockNarrow.{HoldsAct, HoldsPacket, HoldsVsock}
 =======
 >>>>>>> m
@@ -192,7 +192,7 @@ net_held n is =
       rounds_held n.rounds (front (rounds.bytes n.rounds) _ is),
     )
 
-<<<<<<< f4895c43
+<<<<<<< 8bde38ab
 -- ---- a vsock device
 
 vsock_piece_held : (h : InHand) → IsBytes (vsocks.in_hand.bytes h) → HoldsPacket h
@@ -252,7 +252,7 @@ pub device_held : (d : Device) → IsBytes (device.bytes d) → HoldsBytes d
 unfolding device
 device_held (kept.Block b) is = block_held b (behind (byte.bytes 1) (block.bytes b) is)
 device_held (kept.Net n) is = net_held n (behind (byte.bytes 0) (nets.net.bytes n) is)
-<<<<<<< f4895c43
+<<<<<<< 8bde38ab
 device_held (kept.Vsock v) is = vsock_held v (behind (byte.bytes 3) (vsocks.vsock.bytes v) is)
 =======
 >>>>>>> m

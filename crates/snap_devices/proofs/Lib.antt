@@ -14,7 +14,7 @@ pub mod Ports
 pub mod Reading
 pub mod RoundsFits
 pub mod RoundsNarrow
-<<<<<<< f4895c43
+<<<<<<< 8bde38ab
 pub mod VsockFits
 pub mod VsockNarrow
 =======

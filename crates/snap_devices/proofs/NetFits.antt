@@ -137,7 +137,7 @@ module _ (n : QueueRounds Kept) (is : is_state n ≡ true) (few : n.rounds.pages
     (short : AreShort true n.rounds) (narrow : IsNarrowPhase n.phase) (small : IsSmallWork n.kind.doing)
     (own : IsSizedData true n.kind.own) where
   parts : TestParts nets.net true is_work n.phase n.rounds n.kind.doing
-<<<<<<< f4895c43
+<<<<<<< 8bde38ab
   parts = facts nets.net true is_work n.phase n.rounds n.kind.doing is few port short
 =======
   parts = facts nets.net is_work n.phase n.rounds n.kind.doing is few port short
@@ -149,7 +149,7 @@ module _ (n : QueueRounds Kept) (is : is_state n ≡ true) (few : n.rounds.pages
       let kept = stage_fits n.rounds.pages few (work_of n.phase) n.kind.doing.stage n.kind.doing.bytes parts.works small in
       let small_own = own refl in (
         (
-<<<<<<< f4895c43
+<<<<<<< 8bde38ab
           rounds_fit nets.net true is_work n.phase n.rounds n.kind.doing is few port short,
           (
             place_fits nets.net true is_work n.phase n.rounds n.kind.doing is few port short n.phase parts.place narrow,

@@ -1,5 +1,5 @@
 -- A block device is read by its form and what stands behind it, and so is a device.
-<<<<<<< f4895c43
+<<<<<<< 8bde38ab
 use Rattle.std.proofs.Common.{◌≡◌, ℕ, zero, suc, refl, sym, ap, subst, ◌∙◌, Bool, true, false, if◌then◌else◌, ◌<◌, nat_lt, List, length, Option, Some, None}
 use Rattle.std.proofs.lemmas.Bool.{and_from, lt-ltb}
 =======
@@ -9,7 +9,7 @@ use Rattle.std.specs.Option.{option_and_then}
 use Rattle.file_format.specs.Ends.{end_at, ended, whole}
 use Rattle.file_format.specs.Format.{Format}
 use Rattle.file_format.specs.Kinds.{byte, passing}
-<<<<<<< f4895c43
+<<<<<<< 8bde38ab
 use Rattle.dev_core.specs.declared.collect.Collect.{Collect}
 use Rattle.dev_core.specs.Pieces.{room}
 =======
@@ -18,7 +18,7 @@ use Rattle.queue_device.specs.declared.device.QueueRounds.{QueueRounds}
 use Rattle.block_device.specs.declared.kind.BlockKind.{BlockKind}
 use Rattle.net_device.specs.States as nets
 use Rattle.net_device.specs.Work as net_work
-<<<<<<< f4895c43
+<<<<<<< 8bde38ab
 use Rattle.vsock_device.specs.declared.kind.VsockKind.{VsockKind}
 use Rattle.vsock_device.specs.Reset.{is_unconnected}
 use Rattle.vsock_device.specs.States as vsocks
@@ -37,7 +37,7 @@ use Rattle.snap_devices.specs.Devices.{device, devices}
 use Rattle.snap_devices.specs.Forms.{is_form, kept_of}
 use Rattle.snap_devices.specs.Limits.{end_of_device}
 use Rattle.snap_devices.specs.Nets.{net, net_fields}
-<<<<<<< f4895c43
+<<<<<<< 8bde38ab
 use Rattle.snap_devices.specs.Vsocks.{vsock, vsock_fields}
 =======
 >>>>>>> m
@@ -87,7 +87,7 @@ reads_as given rest f m o read end is = with_end given rest f (Some m) read end 
 
 -- ---- a device
 
-<<<<<<< f4895c43
+<<<<<<< 8bde38ab
 pub other_kind : (code : ℕ) (given : List ℕ) → (code ≡ 0 → ⊥) → (code ≡ 1 → ⊥) → (code ≡ 2 → ⊥) → (code ≡ 3 → ⊥)
     → (devices code).reads given ≡ None
 other_kind zero given first one two three = absurd (first refl)
@@ -151,7 +151,7 @@ module _ {A : Type 0} (test : A → Bool) (fields : Format A) where
       → None ≡ (if test a then Some a else None) → (passing test fields).reads given ≡ None
   passed_refused given rest a read is = ap (option_and_then passed_if) read ∙ none_read (test a) a rest is
 
-<<<<<<< f4895c43
+<<<<<<< 8bde38ab
 -- a network device, a balloon and a vsock device are read where they are in a state that they may be in
 =======
 -- a network device, and a balloon, are read where they are in a state that they may be in
@@ -177,7 +177,7 @@ pub balloon_refused : (given rest : List ℕ) (b : QueueRounds balloon_work.Kept
 unfolding balloon
 balloon_refused given rest b read is = passed_refused balloons.is_state balloon_fields given rest b read is
 
-<<<<<<< f4895c43
+<<<<<<< 8bde38ab
 pub vsock_read : (given rest : List ℕ) (v it : QueueRounds VsockKind) → vsock_fields.reads given ≡ Some (v, rest)
     → Some it ≡ (if vsocks.is_state v then Some v else None) → vsock.reads given ≡ Some (it, rest)
 unfolding vsock
@@ -222,7 +222,7 @@ pub balloon_none : (given rest : List ℕ) → byte.reads given ≡ Some (2, res
 balloon_none given rest read is =
     kind_read given rest 2 None read (ap (option_and_then (λ (a : QueueRounds balloon_work.Kept). Some (kept.Balloon a))) is)
 
-<<<<<<< f4895c43
+<<<<<<< 8bde38ab
 pub vsock_is : (given rest : List ℕ) (v : QueueRounds VsockKind) → byte.reads given ≡ Some (3, rest)
     → (whole vsock).reads rest ≡ Some v → device.reads given ≡ Some (kept.Vsock v)
 vsock_is given rest v read is =

@@ -37,7 +37,7 @@ next_fits due.Question = (fits8 1 (omega arith), refl)
 next_fits (due.Lane k) = (fits8 2 (omega arith), (refl, which_fits k))
 next_fits due.Wait = (fits8 3 (omega arith), refl)
 
-<<<<<<< f4895c43
+<<<<<<< 8bde38ab
 -- ---- any device with queues, whose chains may wait or may not, of a guest of at most 2^18 pages, at a port whose number is a byte
 
 module _ {E G : Type 0} (s : Service E) (times : Bool) (works : Work → ℕ → G → Bool) (p : Phase) (r : Rounds) (g : G)
@@ -59,7 +59,7 @@ module _ {E G : Type 0} (s : Service E) (works : Work → ℕ → G → Bool) (p
       let it = (short_of true k r short).1 refl in (
         (fits16 (lane_of k r).next it.next, (fits16 (lane_of k r).used it.used, fits_flag (lane_of k r).is_kicked)),
         (
-<<<<<<< f4895c43
+<<<<<<< 8bde38ab
           lane_queue_fits s times r facts.are few short k,
           waiting_fits s times r facts.are few short k,
 =======
@@ -76,7 +76,7 @@ module _ {E G : Type 0} (s : Service E) (works : Work → ℕ → G → Bool) (p
     (lane_fits First, (lane_fits Second, lane_fits Third)),
   )
 
-<<<<<<< f4895c43
+<<<<<<< 8bde38ab
   in_hand : (c : InHand) → is_in_hand times c r ≡ true → IsHead c.head → hand.Fits c
   unfolding hand hand_fields
   in_hand c is head =
@@ -98,7 +98,7 @@ module _ {E G : Type 0} (s : Service E) (works : Work → ℕ → G → Bool) (p
   place_fits phase.Question there narrow = (fits8 1 (omega arith), refl)
   place_fits (phase.Walk k w) there narrow =
       let on = and_parts (is_at_lane r.due) (is_walked (lane_of k r) w) there in
-<<<<<<< f4895c43
+<<<<<<< 8bde38ab
       (fits8 2 (omega arith), (refl, (which_fits k, begun_fits s times r facts.are few short k w on.1 narrow)))
   place_fits (phase.Take c) there narrow =
       let on = and_parts (is_at_lane r.due) (is_in_hand times c r) there in

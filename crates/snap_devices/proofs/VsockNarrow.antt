@@ -1,5 +1,5 @@
 -- What is read of a vsock device has its widths.
-use Rattle.std.proofs.Common.{◌≤◌, ℕ, true, sym, subst, List, length, Option, Some, None}
+use Rattle.std.proofs.Common.{◌≤◌, ℕ, sym, subst, List, length, Option, Some, None}
 use Rattle.std.specs.List.{All}
 use Rattle.std.proofs.lemmas.Bool.{leb-true}
 use Rattle.std.proofs.lemmas.List.Elements.{All-nil}

@@ -6,7 +6,7 @@ use Rattle.queue_device.specs.declared.device.QueueRounds.{QueueRounds}
 use Rattle.block_device.specs.declared.kind.BlockKind.{BlockKind}
 use Rattle.block_device.specs.States.{is_state}
 use Rattle.net_device.specs.Work as net_work
-<<<<<<< f4895c43
+<<<<<<< 8bde38ab
 use Rattle.vsock_device.specs.declared.kind.VsockKind.{VsockKind}
 =======
 >>>>>>> m
@@ -20,7 +20,7 @@ use Rattle.snap_devices.specs.Devices.{device}
 use Rattle.snap_devices.specs.Forms.{block_filed, more_filed}
 use Rattle.snap_devices.specs.Limits.{end_of_device}
 use Rattle.snap_devices.specs.Nets.{net}
-<<<<<<< f4895c43
+<<<<<<< 8bde38ab
 use Rattle.snap_devices.specs.Vsocks.{vsock}
 =======
 >>>>>>> m
@@ -84,7 +84,7 @@ balloon_put b old mid new fits put end = record {
       end ∙ balloon.same b mid ∙ ap (λ (x : List ℕ). x ++ balloon.bytes b) put ∙ append_assoc old (2 ∷ []) (balloon.bytes b);
 }
 
-<<<<<<< f4895c43
+<<<<<<< 8bde38ab
 vsock_put : (v : QueueRounds VsockKind) (old mid new : List ℕ) → vsock.Fits v → mid ≡ byte.puts 3 old
     → new ≡ vsock.puts v mid → DeviceWritten (kept.Vsock v) old new
 unfolding device byte
@@ -109,7 +109,7 @@ pub balloon_device : (d : Device) (b : QueueRounds balloon_work.Kept) (old mid n
     → mid ≡ byte.puts 2 old → new ≡ balloon.puts b mid → DeviceWritten d old new
 balloon_device d b old mid new is fits put end =
     subst (λ (it : Device). DeviceWritten it old new) (sym is) (balloon_put b old mid new fits put end)
-<<<<<<< f4895c43
+<<<<<<< 8bde38ab
 
 pub vsock_device : (d : Device) (v : QueueRounds VsockKind) (old mid new : List ℕ) → d ≡ kept.Vsock v → vsock.Fits v
     → mid ≡ byte.puts 3 old → new ≡ vsock.puts v mid → DeviceWritten d old new

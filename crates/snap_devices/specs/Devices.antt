@@ -11,7 +11,7 @@ use Rattle.block_device.specs.declared.kind.BlockKind.{BlockKind}
 use Rattle.block_device.specs.declared.work.BlockStage.TheVariants as block_at
 use Rattle.net_device.specs.declared.kind.Stage.TheVariants as net_at
 use Rattle.net_device.specs.Work as net_work
-<<<<<<< f4895c43
+<<<<<<< 8bde38ab
 use Rattle.vsock_device.specs.declared.kind.Stage.TheVariants as vsock_at
 use Rattle.vsock_device.specs.declared.kind.VsockKind.{VsockKind}
 use Rattle.vsock_device.specs.Data.{new_data}
@@ -25,7 +25,7 @@ use Rattle.guest_devices.specs.declared.device.Device.TheVariants as kept
 use Rattle.snap_devices.specs.Balloons.{balloon}
 use Rattle.snap_devices.specs.Blocks.{block}
 use Rattle.snap_devices.specs.Nets.{net}
-<<<<<<< f4895c43
+<<<<<<< 8bde38ab
 use Rattle.snap_devices.specs.Vsocks.{vsock}
 =======
 >>>>>>> m
@@ -35,7 +35,7 @@ abbrev pub device_code : Device → ℕ
 device_code (kept.Net n) = 0
 device_code (kept.Block b) = 1
 device_code (kept.Balloon b) = 2
-<<<<<<< f4895c43
+<<<<<<< 8bde38ab
 device_code (kept.Vsock v) = 3
 =======
 >>>>>>> m
@@ -77,7 +77,7 @@ balloon_of _ = record {
   };
   phase = Between;
 }
-<<<<<<< f4895c43
+<<<<<<< 8bde38ab
 
 abbrev pub vsock_of : Device → QueueRounds VsockKind
 vsock_of (kept.Vsock v) = v
@@ -94,7 +94,7 @@ abbrev pub devices : ℕ → Listing Device
 devices zero = standing_list kept.Net net_of (whole net) (λ _ _. refl)
 devices (suc zero) = standing_list kept.Block block_of block (λ _ _. refl)
 devices (suc (suc zero)) = standing_list kept.Balloon balloon_of (whole balloon) (λ _ _. refl)
-<<<<<<< f4895c43
+<<<<<<< 8bde38ab
 devices (suc (suc (suc zero))) = standing_list kept.Vsock vsock_of (whole vsock) (λ _ _. refl)
 devices (suc (suc (suc (suc n)))) = no_list
 =======
@@ -105,7 +105,7 @@ pub device_code-is : (code : ℕ) (d : Device) → (devices code).Fits d → cod
 device_code-is zero d fits = sym (ap device_code fits.0)
 device_code-is (suc zero) d fits = sym (ap device_code fits.0)
 device_code-is (suc (suc zero)) d fits = sym (ap device_code fits.0)
-<<<<<<< f4895c43
+<<<<<<< 8bde38ab
 device_code-is (suc (suc (suc zero))) d fits = sym (ap device_code fits.0)
 device_code-is (suc (suc (suc (suc n)))) d fits = absurd fits
 =======

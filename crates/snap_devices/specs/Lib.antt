@@ -10,7 +10,7 @@ pub mod Rounds
 pub mod Places
 pub mod Balloons
 pub mod Nets
-<<<<<<< f4895c43
+<<<<<<< 8bde38ab
 pub mod Vsocks
 =======
 >>>>>>> m

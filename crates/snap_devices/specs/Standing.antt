@@ -1,4 +1,10 @@
 -- The form of a value that has other fields in a file than in memory.
+<<<<<<< 8bde38ab
+use Rattle.std.specs.Prelude.{◌≡◌}
+use Rattle.file_format.specs.Format.{Format}
+use Rattle.file_format.specs.Readers.{made_at}
+use Rattle.file_format.specs.Laws.{standing_only, variant_again}
+=======
 use Rattle.std.specs.Prelude.{◌≡◌, ℕ, List, ◌++◌, Some, refl}
 use Rattle.std.proofs.Common.{subst}
 use Rattle.std.proofs.lemmas.Option.{option_and_then_some}
@@ -19,6 +25,7 @@ standing_only {A} {B} make part inner law given v rest is e =
     × (given ≡ inner.bytes (part p.0) ++ p.1)) same
     (subst (λ (k : A). ((make x.0 ≡ make k) × inner.Fits k)
     × (given ≡ inner.bytes k ++ x.1)) (law x.0 a.0) ((refl, a.0), a.1)))
+>>>>>>> m
 
 -- The values that are made of a form that fits, by it. A form that fits stands for one value, and is what that has.
 abbrev pub standing : {A B : Type 0} (make : A → B) (part : B → A) (inner : Format A)

@@ -1,5 +1,5 @@
 // A device.
-<<<<<<< f4895c43
+<<<<<<< 8bde38ab
 ghost use Rattle.std.specs.Prelude.{◌≡◌, ◌++◌, true, IfOk, OnOk};
 ghost use Rattle.file_format.specs.Ends.{TakesAll};
 ghost use Rattle.guest_devices.specs.Kept.{is_saved};
@@ -12,7 +12,7 @@ ghost use Rattle.snap_devices.specs.Devices.{device};
 use crate::balloon::{read_balloon, write_balloon};
 use crate::block::{read_block, write_block};
 use crate::net::{read_net, write_net};
-<<<<<<< f4895c43
+<<<<<<< 8bde38ab
 use crate::saved::SavedDevice;
 use crate::vsock::{read_vsock, write_vsock};
 =======
@@ -40,7 +40,7 @@ fn write_device(it: &Device, out: &mut Vec<u8>) -> Result<(), AllocError>
             2u8.write(out)?;
             write_balloon(balloon, out)?;
         }
-<<<<<<< f4895c43
+<<<<<<< 8bde38ab
         Device::Vsock(vsock) => {
             3u8.write(out)?;
             write_vsock(vsock, out)?;
@@ -51,7 +51,7 @@ fn write_device(it: &Device, out: &mut Vec<u8>) -> Result<(), AllocError>
     Ok(())
 }
 
-<<<<<<< f4895c43
+<<<<<<< 8bde38ab
 #[tactic(auto, using(crate::proofs::Reading::kind_bad, crate::proofs::Reading::block_is, crate::proofs::Reading::block_none, crate::proofs::Reading::net_is, crate::proofs::Reading::net_none, crate::proofs::Reading::balloon_is, crate::proofs::Reading::balloon_none, crate::proofs::Reading::vsock_is, crate::proofs::Reading::vsock_none, crate::proofs::Reading::other_none,))]
 fn read_device(alloc: Global, bytes: &[u8]) -> Result<Device, ReadError>
     ensures device { TakesAll device bytes.now result }
@@ -76,7 +76,7 @@ fn read_device(alloc: Global, bytes: &[u8]) -> Result<Device, ReadError>
             Ok(balloon) => Ok(Device::Balloon(balloon)),
             Err(error) => Err(error),
         },
-<<<<<<< f4895c43
+<<<<<<< 8bde38ab
         Ok(3) => match read_vsock(alloc, &mut input) {
             Ok(vsock) => Ok(Device::Vsock(vsock)),
             Err(error) => Err(error),
@@ -88,7 +88,7 @@ fn read_device(alloc: Global, bytes: &[u8]) -> Result<Device, ReadError>
     }
 }
 
-<<<<<<< f4895c43
+<<<<<<< 8bde38ab
 impl Whole for SavedDevice {
     ghost listing = { device };
 

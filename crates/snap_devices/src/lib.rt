@@ -1,7 +1,7 @@
 //! Ports and devices as bytes: how a state file has each of them, one encoding for each state.
 //!
 //! `specs/` has the formats: `Ports` of a port, `Devices` of a device by its kind, and under it `Blocks`, `Phases`,
-<<<<<<< f4895c43
+<<<<<<< 8bde38ab
 //! `Serving`, `Queues` and `Limits` of a block device, `Nets` of a network device, `Vsocks` of a vsock device and `Balloons` of
 //! a balloon, each over `Rounds` and `Places`. `Saved<Port>` and
 //! `SavedDevice` are written and read so (`Stored`, and `Whole` of a device): what is read is the one port or device that
@@ -22,7 +22,7 @@
 //! the configuration. A queue, 33 bytes: QueueDesc, QueueDriver and QueueDevice (8 each), QueueNum and QueueReady (4
 //! each), and the flag that it was kicked.
 //!
-<<<<<<< f4895c43
+<<<<<<< 8bde38ab
 //! A device: its kind (1 byte: 0 net, 1 block, 2 balloon, 3 vsock), and what is kept of it. A block device:
 =======
 //! A device: its kind (1 byte: 0 net, 1 block, 2 balloon), and what is kept of it. A block device:
@@ -55,7 +55,7 @@
 //!   moment of the newest request that passed (8). A chain that waits: its queue, 30 bytes; its head (2); the list of the parts that
 //!   are still needed; the list of the parts that are still read; the list of the bytes that were read.
 //!
-<<<<<<< f4895c43
+<<<<<<< 8bde38ab
 //! A network device, a vsock device or a balloon begins with these:
 =======
 //! A network device or a balloon begins with these:
@@ -67,7 +67,7 @@
 //!   the flag that it was kicked; its registers, an option of 30 bytes; and the chain that waits, an option;
 //! - where it is, a byte and what follows it: 0 between two groups; 1 its host answered, which is never so of a balloon; 2 a
 //!   chain is walked: the queue's number (1) and the walk; 3 a chain is read before it may be served, which is never so of these
-<<<<<<< f4895c43
+<<<<<<< 8bde38ab
 //!   three, and 4 it is served: the chain in hand; 5 it is given back: how many bytes were written (4), how far (1), and the
 =======
 //!   two, and 4 it is served: the chain in hand; 5 it is given back: how many bytes were written (4), how far (1), and the
@@ -86,7 +86,7 @@
 //!   list of its bytes, at most 64, and then as in 3; 5 the frame that was sent is ended;
 //! - the frame of 1 and 2 behind its header, as far as it came, a list of at most 1,526 bytes.
 //!
-<<<<<<< f4895c43
+<<<<<<< 8bde38ab
 //! A vsock device, which a file has without its connections, and so without bytes of the host for the guest:
 //!
 //! - the guest's CID (8); the next port at the host (4); the answer that waits for the guest, an option; the chain in hand; and the
@@ -134,7 +134,7 @@ mod saved;
 mod vsock;
 
 pub use law::port_size;
-<<<<<<< f4895c43
+<<<<<<< 8bde38ab
 pub use saved::{Saved, SavedDevice};
 =======
 pub use saved::Saved;

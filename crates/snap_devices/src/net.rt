@@ -38,7 +38,7 @@ fn read_text(alloc: Global, input: &mut Input) -> Result<Text, ReadError>
 }
 
 #[tactic(auto, unfolding(crate::specs::Nets::piece, file_format::specs::Kinds::byte_list))]
-<<<<<<< f4895c43
+<<<<<<< 8bde38ab
 pub(crate) fn write_piece(bytes: &[u8], out: &mut Vec<u8>) -> Result<(), AllocError>
 =======
 fn write_piece(bytes: &[u8], out: &mut Vec<u8>) -> Result<(), AllocError>
@@ -53,7 +53,7 @@ fn write_piece(bytes: &[u8], out: &mut Vec<u8>) -> Result<(), AllocError>
 }
 
 #[tactic(auto, unfolding(crate::specs::Nets::piece))]
-<<<<<<< f4895c43
+<<<<<<< 8bde38ab
 pub(crate) fn read_piece(alloc: Global, input: &mut Input) -> Result<Piece, ReadError>
 =======
 fn read_piece(alloc: Global, input: &mut Input) -> Result<Piece, ReadError>

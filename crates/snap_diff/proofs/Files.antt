@@ -8,7 +8,7 @@ use Rattle.std.proofs.lemmas.List.{append-nil, drop_at, length-drop, length-take
 use Rattle.refusals.specs.declared.refusal.Refusal.{Refusal}
 use Rattle.refusals.specs.declared.refusal.Refusal.TheVariants as refusal
 use Rattle.file_format.specs.Format.{IsBytes}
-<<<<<<< f4895c43
+<<<<<<< 8bde38ab
 use Rattle.file_format.specs.Kinds.{raw, times}
 =======
 use Rattle.file_format.specs.Kinds.{fixed, number32, raw, times}
@@ -19,7 +19,7 @@ use Rattle.file_format.specs.Starts.{is_closed, is_other}
 use Rattle.file_format.specs.Versions.{version_of}
 use Rattle.file_format.specs.declared.version.Version.{Version}
 use Rattle.snap_diff.specs.declared.header.DiffHeader.{DiffHeader}
-<<<<<<< f4895c43
+<<<<<<< 8bde38ab
 use Rattle.snap_diff.specs.declared.header.DiffNames.{DiffNames}
 use Rattle.snap_diff.specs.declared.run.Run.{Run}
 use Rattle.snap_diff.specs.Copies.{DiffCopy, IsDiff}
@@ -294,7 +294,7 @@ found_good given d bytes is =
     let opened = no_refusal (is_closed 64 (take 64 given)) refusal.GateClosed (cond (is_other (magic (version_of (take 64 given))) (take 64 given)) (Err refusal.WrongMagic) rest) d is in
     let known = no_refusal (is_other (magic (version_of (take 64 given))) (take 64 given)) refusal.WrongMagic rest d opened.1 in
     header_found given d (header.reads (take 64 given)) bytes refl known.1
-<<<<<<< f4895c43
+<<<<<<< 8bde38ab
 =======
 
 -- ---- the start of a file

@@ -1,5 +1,5 @@
 // A header.
-<<<<<<< f4895c43
+<<<<<<< 8bde38ab
 ghost use Rattle.std.specs.Prelude.{◌≡◌, ◌≤◌, ◌+◌, ◌*◌, ◌^◌, ◌∷◌, ◌++◌, List, ℕ, IsTrue, IfOk, OnOk, length};
 ghost use Rattle.file_format.specs.Reading.{Takes};
 =======
@@ -9,7 +9,7 @@ ghost use Rattle.file_format.specs.Starts.{Decodes};
 ghost use Rattle.file_format.specs.Versions.{version_of};
 ghost use Rattle.file_format.specs.declared.version.Version.TheVariants.{Two};
 ghost use Rattle.guest_memory.specs.Ram.{page_size};
-<<<<<<< f4895c43
+<<<<<<< 8bde38ab
 ghost use Rattle.snap_diff.specs.Diffs.{Begins, Found, IsDiffFile, are_stored, copy_of, is_table, size_behind, table_bytes, table_size};
 ghost use Rattle.snap_diff.specs.Headers.{are_names, behind_gate, counts, header, magic, names};
 =======
@@ -27,7 +27,7 @@ use guest_memory::PAGE_SIZE;
 use std::alloc::{AllocError, Global};
 use vm_types::Identity;
 
-<<<<<<< f4895c43
+<<<<<<< 8bde38ab
 /// "RVFCDIF".
 const KIND: [u8; 7] = [82, 86, 70, 67, 68, 73, 70];
 
@@ -48,7 +48,7 @@ pub struct DiffNames {
     pub identity: Identity,
 }
 
-<<<<<<< f4895c43
+<<<<<<< 8bde38ab
 /// The header of a diff file.
 #[derive(Clone, Copy, Drop)]
 pub struct DiffHeader {
@@ -182,7 +182,7 @@ impl DiffHeader {
     /// How many bytes it has.
     pub const SIZE: usize = 64;
 
-<<<<<<< f4895c43
+<<<<<<< 8bde38ab
     /// How many bytes of the file the table behind it has.
     pub fn table_size(&self) -> u64
         ensures size { result ≡ table_size self.now }
@@ -246,7 +246,7 @@ impl DiffHeader {
         }
     }
 
-<<<<<<< f4895c43
+<<<<<<< 8bde38ab
     /// The bytes of a file of version 2 between its gate and its pages: this header, and the table of these runs. The
     /// bytes of each stored page follow them.
     pub fn encode_behind_gate(&self, alloc: Global, runs: &[Run]) -> Result<Vec<u8>, AllocError>

@@ -1,6 +1,6 @@
 //! A diff file: the pages of a memory that were written since another snapshot.
 //!
-<<<<<<< f4895c43
+<<<<<<< 8bde38ab
 //! `specs/Copies.antt` says what a diff is and what it makes of a copy of the memory, `Runs.antt`, `Headers.antt` and
 //! `Diffs.antt` which bytes its file is, in versions 1 and 2. `DiffHeader::read` answers the header that a file's bytes begin
 //! with, or the first refusal that fits, and `read_table` the runs of the table behind it;

@@ -2,8 +2,7 @@
 use Rattle.std.proofs.Common.{◌≡◌, ℕ, ◌+◌, ◌≤◌, List, ◌++◌, length, take, drop, Option, Some, None, sym, ap, ◌∙◌, subst, arith, append_assoc, length-drop}
 use Rattle.std.proofs.Math.Seq.{take-add}
 use Rattle.std.proofs.lemmas.List.{drop-drop, length-take-le, take_at, drop_all, append-nil}
-use Rattle.vm_outside.specs.Filing.{IsReadAt, SameFiles}
-use Rattle.vm_outside.specs.Known.{FilesKnown}
+use Rattle.vm_outside.specs.Filing.{IsReadAt}
 use Rattle.guest_memory.specs.Memory.{Memory, put_at}
 use Rattle.guest_pages.specs.Pages.{loaded}
 use Rattle.guest_pages.proofs.Joined.{put_behind}
@@ -45,9 +44,6 @@ read_more o content first buf block piece at place done count old new there read
 -- a block that is put there reserves nothing
 pub slots_kept : (offset : ℕ) (piece : List ℕ) (old new : Memory) → new ≡ loaded offset piece old → new.reserved ≡ old.reserved
 slots_kept offset piece old new is = ap (λ (m : Memory). m.reserved) is
-
-pub same_then : (old mid new : FilesKnown) → SameFiles old mid → SameFiles mid new → SameFiles old new
-same_then old mid new first second = record { saved = second.saved ∙ first.saved; calls = second.calls ∙ first.calls }
 
 -- all of them are read
 pub read_all : (content first bytes : List ℕ) (at done : ℕ) → bytes ≡ take done (drop at content) ++ drop done first → length first ≤ done → bytes ≡ take done (drop at content)

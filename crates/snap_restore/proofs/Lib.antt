@@ -1,1 +1,4 @@
 pub mod BlockReads
+pub mod Both
+pub mod Judged
+pub mod Starts

@@ -115,7 +115,7 @@ encoded i c body behind written fits fits_len fits_identity valid numbered behin
     let whole : behind ≡ start ++ (number32.bytes (length body) ++ (identity.bytes i ++ body)) =
     behind-is ∙ ap (λ (x : List ℕ). x ++ body) puts ∙ regroup start (number32.bytes (length body)) (identity.bytes i) body in
     subst (λ (b : List ℕ). number32.Fits (length b) → behind ≡ start ++ (number32.bytes (length b) ++ (identity.bytes i ++ b)) → Encodes (1 ∷ behind) (record { identity = i; copy = c })) (sym body-is)
-<<<<<<< f4895c43
+<<<<<<< 8bde38ab
     (λ fits_len' whole'. subst (λ (l : List ℕ). Encodes (1 ∷ l) (record { identity = i; copy = c })) (sym whole')
     (record { saved = record { fits = (fits_len', (fits_identity, fits)); valid = valid; numbered = numbered }; bytes = refl })) fits_len whole
 

@@ -7,7 +7,7 @@ use Rattle.port_table.specs.declared.kind.DeviceKind.TheVariants.{Net, Block, Ba
 use Rattle.api_calls.specs.declared.balloon.Balloon as configured
 use Rattle.api_calls.specs.declared.call.Drive.{Drive}
 use Rattle.api_calls.specs.declared.interface.Interface.{Interface}
-<<<<<<< f4895c43
+<<<<<<< 8bde38ab
 use Rattle.api_calls.specs.declared.vsock.Vsock as vsock
 use Rattle.vm_config.specs.Devices.{Configured, balloon_devices, count_in, devices_in, of_drive, of_interface, vsock_count, vsock_devices}
 =======
@@ -110,7 +110,7 @@ kind_behind of [] rest k = let e : 0 + k ≡ k = omega arith in rw e refl
 kind_behind of (a ∷ things) rest k =
     let e : length (a ∷ things) + k ≡ suc (length things + k) = omega arith in rw e (kind_behind of things rest k)
 
-<<<<<<< f4895c43
+<<<<<<< 8bde38ab
 -- one of it, and what is behind it
 vsock_front : (v : Option vsock.Vsock) (rest : List Configured) (k : ℕ) → k < vsock_count v
     → slice_get (map kind_configured (vsock_devices v ++ rest)) k ≡ slice_get (map kind_configured (vsock_devices v)) 0
@@ -157,7 +157,7 @@ module _ (drives : List Drive) (interfaces : List Interface) (balloon : Option c
       ap (slice_get due) at ∙ kind_behind of_drive (in_order drives) others j
 
   pub interface_due : length drives ≤ k → k < length drives + length interfaces
-<<<<<<< f4895c43
+<<<<<<< 8bde38ab
       → slice_get (map kind_configured (devices_in drives interfaces one balloon)) k ≡ Some Net
   interface_due from lt =
       let j : ℕ = k - length drives in
@@ -197,7 +197,7 @@ module _ (drives : List Drive) (interfaces : List Interface) (balloon : Option c
   one_balloon None j = refl
   one_balloon (Some b) j = refl
 
-<<<<<<< f4895c43
+<<<<<<< 8bde38ab
   pub none_due : length drives + length interfaces + vsock_count one < k
       → slice_get (map kind_configured (devices_in drives interfaces one balloon)) k ≡ None
   none_due lt =
@@ -241,7 +241,7 @@ has_kinds c kinds same each =
 
 -- ---- how many there are
 
-<<<<<<< f4895c43
+<<<<<<< 8bde38ab
 many_kinds : (c : StateCopy) → length (kinds_of c.configuration) ≡ count_in c.configuration.drives c.configuration.interfaces c.configuration.vsock c.configuration.balloon
 many_kinds c =
     length-map (devices_in c.configuration.drives c.configuration.interfaces c.configuration.vsock c.configuration.balloon) kind_configured

@@ -10,7 +10,7 @@ use Rattle.api_calls.specs.declared.call.CacheType.{CacheType}
 use Rattle.api_calls.specs.declared.call.CacheType.TheVariants.{Unsafe, Writeback}
 use Rattle.api_calls.specs.declared.call.Drive.{Drive}
 use Rattle.api_calls.specs.declared.interface.Interface.{Interface}
-<<<<<<< f4895c43
+<<<<<<< 8bde38ab
 use Rattle.api_calls.specs.declared.mmds.MmdsConfig.{MmdsConfig}
 use Rattle.metadata_store.specs.declared.version.MetadataVersion.{MetadataVersion}
 use Rattle.metadata_store.specs.declared.version.MetadataVersion.TheVariants.{V1, V2}
@@ -41,7 +41,7 @@ use Rattle.snap_state.specs.Copies as copies
 use Rattle.snap_state.specs.Drives as drives
 use Rattle.snap_state.specs.Interfaces as interfaces
 use Rattle.snap_state.specs.Limits as limits
-<<<<<<< f4895c43
+<<<<<<< 8bde38ab
 use Rattle.snap_state.specs.Mmds as mmds
 use Rattle.file_format.specs.declared.version.Version.{Version}
 use Rattle.file_format.specs.declared.version.Version.TheVariants.{One, Two}
@@ -120,7 +120,7 @@ interface_within =
     made_within _ interface_most (λ a. omega arith)
     (pair_within text_within (pair_within text_within (pair_within (optional_within text text_within)
     (pair_within (any_within 52 limits.limiter limiter_within) (any_within 52 limits.limiter limiter_within)))))
-<<<<<<< f4895c43
+<<<<<<< 8bde38ab
 
 version_takes : (name : List ℕ) (first second : Bool) (left : List ℕ) (v : MetadataVersion) (rest : List ℕ)
     → bytes_eq name (codes "V1") ≡ first → bytes_eq name (codes "V2") ≡ second
@@ -182,7 +182,7 @@ configuration_within =
     made_within _ configuration_most (λ a. omega arith)
     (pair_within
     (pair_within (fixed_within (1 ∷ [])) (pair_within source_within (pair_within (list_within drives.drive drive_within)
-<<<<<<< f4895c43
+<<<<<<< 8bde38ab
     (pair_within (list_within interfaces.interface interface_within) (optional_within configured.vsock vsock_within)))))
     (pair_within within64 (pair_within within64 (pair_within (zeros_within 1)
     (pair_within flag_within (pair_within (any_within 17 configured.balloon balloon_within) (optional_within mmds.mmds mmds_within)))))))
@@ -217,7 +217,7 @@ unfolding copies.devices
 few_devices =
     passing_within _ (λ ds. 4 + 30644 * length ds) (λ v is. omega arith)
     (each_within 30644 (listed device) (listed_within 30640 device device_within))
-<<<<<<< f4895c43
+<<<<<<< 8bde38ab
 
 abbrev section_most : Section → ℕ
 section_most s = 4 + (4 + length s.bytes)
@@ -229,7 +229,7 @@ copy_most c =
     (configuration_most c.configuration + 13)
     + (board_most c.board
     + ((4 + 328 * length c.harts)
-<<<<<<< f4895c43
+<<<<<<< 8bde38ab
     + ((4 + 153 * length c.ports) + ((4 + 30644 * length c.devices) + ((4 + 12 * length c.reservations) + (4 + total section_most c.sections))))))
 =======
     + ((4 + 153 * length c.ports) + ((4 + 30644 * length c.devices) + (4 + 12 * length c.reservations)))))
@@ -338,7 +338,7 @@ interfaces_short : (is : List Interface) → are_interfaces is ≡ true → tota
 interfaces_short is all =
     let parts = and_parts (list_all is_interface is) (are_apart id_of_interface is) all in
     total-pass interface_most is_interface 4295 interface_short is parts.0
-<<<<<<< f4895c43
+<<<<<<< 8bde38ab
 
 vsock_short : (v : Option Vsock) → holds is_vsock v ≡ true → optional_most vsock_most v ≤ 4108
 vsock_short None is = omega arith
@@ -375,7 +375,7 @@ machine_small c is =
     let harts = and_parts _ (leb m.vcpu_count 32) least.0 in
     (leb-true _ _ harts.1, omega (arith, eqb-true _ _ both.1, leb-true _ _ most.1))
 
-<<<<<<< f4895c43
+<<<<<<< 8bde38ab
 devices_few : (c : StateCopy) → has_devices c ≡ true → has_room c.configuration.drives c.configuration.interfaces c.configuration.vsock c.configuration.balloon ≡ true
     → (length c.ports ≤ 16) × (length c.devices ≤ 16) × (length c.configuration.interfaces ≤ 16)
 devices_few c is room =
@@ -414,7 +414,7 @@ copy_short c is =
     let harts = and_parts _ _ devices.0 in
     let count = and_parts _ (eqb (length c.harts) harts_there) harts.0 in
     let boards = and_parts _ (is_board harts_there c.board) count.0 in
-<<<<<<< f4895c43
+<<<<<<< 8bde38ab
     let room = and_parts _ (has_room c.configuration.drives c.configuration.interfaces c.configuration.vsock c.configuration.balloon) boards.0 in
     let balloons = and_parts _ (holds (is_balloon c.configuration.machine.mem_size_mib) c.configuration.balloon) room.0 in
     let machine = and_parts _ (has_machine c c.configuration.machine) balloons.0 in
@@ -439,7 +439,7 @@ copy_short c is =
       small.0,
       small.1,
       interfaces_short c.configuration.interfaces linked.1,
-<<<<<<< f4895c43
+<<<<<<< 8bde38ab
       vsock_short c.configuration.vsock sockets.1,
       mmds_short c.configuration.interfaces c.configuration.mmds given.1,
 =======

@@ -11,7 +11,7 @@ use Rattle.guest_devices.specs.declared.device.Device.{Device}
 use Rattle.guest_devices.specs.Kept.{device_pages, device_port, is_kept}
 use Rattle.snap_state.specs.declared.copy.StateCopy.{StateCopy}
 use Rattle.snap_state.proofs.HasDevices.{has_parts, many_devices, many_ports}
-<<<<<<< f4895c43
+<<<<<<< 8bde38ab
 use Rattle.snap_state.specs.Valid.{are_devices, are_drives, are_interfaces, are_sections, has_devices, has_machine, has_room, is_balloon, is_board, is_device, is_hart, is_machine, is_mmds, is_reserved, is_rising, is_source, is_valid, is_vsock}
 =======
 use Rattle.snap_state.specs.Valid.{are_devices, are_drives, are_interfaces, are_sections, has_devices, has_machine, has_room, is_balloon, is_board, is_device, is_hart, is_machine, is_reserved, is_rising, is_source, is_valid}
@@ -21,7 +21,7 @@ pub record Rules (c : StateCopy) : Type 0 where
   pub source : is_source c.configuration.boot_source ≡ true
   pub drives : are_drives c.configuration.drives ≡ true
   pub interfaces : are_interfaces c.configuration.interfaces ≡ true
-<<<<<<< f4895c43
+<<<<<<< 8bde38ab
   pub vsock : holds is_vsock c.configuration.vsock ≡ true
   pub mmds : holds (is_mmds c.configuration.interfaces) c.configuration.mmds ≡ true
   pub machine : has_machine c c.configuration.machine ≡ true
@@ -44,7 +44,7 @@ pub rules_of : (c : StateCopy) → is_valid c ≡ true → Rules c
 unfolding is_valid
 rules_of c valid =
     let m = c.configuration.machine in
-<<<<<<< f4895c43
+<<<<<<< 8bde38ab
     let p14 = and_parts _ (are_sections c.sections) valid in
     let p13 = and_parts _ (is_rising c.reservations) p14.0 in
     let p12 = and_parts _ (list_all (is_reserved c.pages m.vcpu_count) c.reservations) p13.0 in
@@ -76,7 +76,7 @@ rules_of c valid =
       source = p1.0;
       drives = p1.1;
       interfaces = p2.1;
-<<<<<<< f4895c43
+<<<<<<< 8bde38ab
       vsock = p3.1;
       mmds = p4.1;
       machine = p5.1;
@@ -111,7 +111,7 @@ rules_hold c r =
       r.source,
       r.drives,
       r.interfaces,
-<<<<<<< f4895c43
+<<<<<<< 8bde38ab
       r.vsock,
       r.mmds,
 =======
@@ -151,7 +151,7 @@ few_pages c r =
 -- ---- ports and devices
 
 pub record Attached (c : StateCopy) : Type 0 where
-<<<<<<< f4895c43
+<<<<<<< 8bde38ab
   pub ports : length c.ports ≡ count_in c.configuration.drives c.configuration.interfaces c.configuration.vsock c.configuration.balloon
   pub devices : length c.devices ≡ count_in c.configuration.drives c.configuration.interfaces c.configuration.vsock c.configuration.balloon
   pub few : count_in c.configuration.drives c.configuration.interfaces c.configuration.vsock c.configuration.balloon ≤ most_ports
@@ -168,7 +168,7 @@ attached c r =
     record {
       ports = many_ports c has;
       devices = many_devices c has;
-<<<<<<< f4895c43
+<<<<<<< 8bde38ab
       few = leb-true (count_in c.configuration.drives c.configuration.interfaces c.configuration.vsock c.configuration.balloon) most_ports r.room;
 =======
       few = leb-true (count_in c.configuration.drives c.configuration.interfaces c.configuration.balloon) most_ports r.room;

@@ -13,7 +13,7 @@ use Rattle.snap_devices.specs.Phases as phases
 use Rattle.snap_devices.specs.Blocks as blocks
 use Rattle.snap_devices.specs.Devices as devices
 use Rattle.snap_devices.specs.Ports as ports
-<<<<<<< f4895c43
+<<<<<<< 8bde38ab
 use Rattle.snap_devices.specs.Vsocks as vsocks
 =======
 >>>>>>> m
@@ -182,7 +182,7 @@ block_within =
     standing_list_within _ 17227
     (passing_list_within _ 17227 (ended_within blocks.block_fields limits.end_of_device 10269 6958 fields_within more_within))
 
-<<<<<<< f4895c43
+<<<<<<< 8bde38ab
 -- ---- the rounds of a network device, a vsock device or a balloon, and where it is
 =======
 -- ---- the rounds of a network device or a balloon, and where it is
@@ -316,7 +316,7 @@ balloon_within =
     (made_within _ (λ _. 27629) (λ a. omega arith)
     (pair_within rounds_within (pair_within device_place_within balloon_kind_within)))
 
-<<<<<<< f4895c43
+<<<<<<< 8bde38ab
 -- ---- a vsock device
 
 operations_within : (code : ℕ) → Within (vsocks.numbered code).reads (λ _. 0)
@@ -411,7 +411,7 @@ devices_within (suc zero) =
     standing_list_within _ 30639 (wider_within 17227 30639 (omega arith) block_within)
 devices_within (suc (suc zero)) =
     standing_list_within _ 30639 (wider_within 27629 30639 (omega arith) (whole_within balloons.balloon 27629 balloon_within))
-<<<<<<< f4895c43
+<<<<<<< 8bde38ab
 devices_within (suc (suc (suc zero))) =
     standing_list_within _ 30639 (wider_within 27556 30639 (omega arith) (whole_within vsocks.vsock 27556 vsock_within))
 devices_within (suc (suc (suc (suc n)))) = no_list_within 30639

@@ -16,7 +16,7 @@ use Rattle.api_calls.specs.declared.call.CacheType.TheVariants.{Unsafe, Writebac
 use Rattle.api_calls.specs.declared.call.Drive.{Drive}
 use Rattle.api_calls.specs.declared.call.MachineConfig.{MachineConfig}
 use Rattle.api_calls.specs.declared.interface.Interface.{Interface}
-<<<<<<< f4895c43
+<<<<<<< 8bde38ab
 use Rattle.api_calls.specs.declared.vsock.Vsock.{Vsock}
 use Rattle.api_calls.specs.declared.limiter.BucketConfig.{BucketConfig}
 use Rattle.api_calls.specs.declared.limiter.Limiter.{Limiter}
@@ -38,7 +38,7 @@ use Rattle.guest_memory.specs.Reserved.{hart_limit}
 use Rattle.port_table.specs.Window.{most_ports}
 use Rattle.snap_state.specs.declared.configuration.BootSource.{BootSource}
 use Rattle.snap_state.specs.declared.configuration.Configuration.{Configuration}
-<<<<<<< f4895c43
+<<<<<<< 8bde38ab
 use Rattle.snap_state.specs.Configured.{balloon, boot_source, configuration, vsock}
 use Rattle.snap_state.specs.Drives.{cache, drive}
 use Rattle.snap_state.specs.Interfaces.{interface}
@@ -286,7 +286,7 @@ machine_of m is =
     let few = and_parts (nat_le 1 m.vcpu_count) (nat_le m.vcpu_count hart_limit) some.0 in
     record { harts = leb-true _ _ few.1; mib = leb-true _ _ large.1 }
 
-<<<<<<< f4895c43
+<<<<<<< 8bde38ab
 vsock_fits : (v : Vsock) → is_vsock v ≡ true → vsock.Fits v
 unfolding vsock
 vsock_fits v is =
@@ -371,7 +371,7 @@ unfolding fixed
 front_fits = refl
 
 pub configuration_fits : (c : Configuration) → is_source c.boot_source ≡ true → are_drives c.drives ≡ true
-<<<<<<< f4895c43
+<<<<<<< 8bde38ab
     → are_interfaces c.interfaces ≡ true → length c.interfaces ≤ most_ports → holds is_vsock c.vsock ≡ true
     → holds (is_mmds c.interfaces) c.mmds ≡ true → is_machine c.machine ≡ true → holds (is_balloon c.machine.mem_size_mib) c.balloon ≡ true
     → configuration.Fits c
@@ -393,7 +393,7 @@ configuration_fits c source drives interfaces links machine balloons =
           source_fits c.boot_source source,
           (
             fits_list drive c.drives (omega (arith, few)) (each_fits c.drives ds.each),
-<<<<<<< f4895c43
+<<<<<<< 8bde38ab
             (fits_list interface c.interfaces (omega (arith, links)) (links_fit c.interfaces (links_of c.interfaces interfaces)), vsocks_fit c.vsock sockets),
 =======
             (fits_list interface c.interfaces (omega (arith, links)) (links_fit c.interfaces (links_of c.interfaces interfaces)), fits_zeros 1),
@@ -409,7 +409,7 @@ configuration_fits c source drives interfaces links machine balloons =
             fits_zeros 1,
             (
               fits_flag c.machine.track_dirty_pages,
-<<<<<<< f4895c43
+<<<<<<< 8bde38ab
               (balloons_fit c.machine.mem_size_mib c.balloon mib balloons, mmds_fit c.interfaces c.mmds given),
 =======
               (balloons_fit c.machine.mem_size_mib c.balloon mib balloons, fits_zeros 1),

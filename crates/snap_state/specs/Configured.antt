@@ -4,7 +4,7 @@ use Rattle.std.specs.Prelude.{[], ◌∷◌, refl}
 use Rattle.file_format.specs.Format.{Format}
 use Rattle.file_format.specs.Kinds.{number64, flag, text, optional, list_of, fixed, zeros, ◌&◌, made_of}
 use Rattle.api_calls.specs.declared.balloon.Balloon.{Balloon}
-<<<<<<< f4895c43
+<<<<<<< 8bde38ab
 use Rattle.api_calls.specs.declared.vsock.Vsock.{Vsock}
 use Rattle.snap_state.specs.Drives.{drive}
 use Rattle.snap_state.specs.Interfaces.{interface}
@@ -38,7 +38,7 @@ balloon =
     (λ _. refl) (λ _. refl)
     (number64 & flag & number64)
 
-<<<<<<< f4895c43
+<<<<<<< 8bde38ab
 -- the guest's CID, and the name of the host's socket
 unfoldable pub vsock : Format Vsock
 vsock =
@@ -56,7 +56,7 @@ unfoldable pub configuration : Format Configuration
 configuration =
     made_of
     (λ c. (
-<<<<<<< f4895c43
+<<<<<<< 8bde38ab
       (tt, (c.boot_source, (c.drives, (c.interfaces, c.vsock)))),
       (c.machine.vcpu_count, (c.machine.mem_size_mib, (tt, (c.machine.track_dirty_pages, (c.balloon, c.mmds))))),
     ))
@@ -71,7 +71,7 @@ configuration =
       boot_source = boot_source;
       drives = drives;
       interfaces = interfaces;
-<<<<<<< f4895c43
+<<<<<<< 8bde38ab
       vsock = vsock;
       machine = record { vcpu_count = vcpu_count; mem_size_mib = mem_size_mib; track_dirty_pages = track_dirty_pages };
       balloon = balloon;

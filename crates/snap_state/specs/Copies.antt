@@ -1,7 +1,7 @@
 -- The body of a state file.
 use Rattle.std.specs.Prelude.{refl, nat_le, Bool, List, [], length}
 use Rattle.file_format.specs.Format.{Format}
-<<<<<<< f4895c43
+<<<<<<< 8bde38ab
 use Rattle.file_format.specs.Kinds.{number32, number64, flag, byte_list, list_of, passing, just, ◌&◌, made_of}
 use Rattle.file_format.specs.declared.version.Version.{Version}
 use Rattle.file_format.specs.declared.version.Version.TheVariants.{One, Two}
@@ -37,7 +37,7 @@ are_few ds = nat_le (length ds) most_ports
 
 unfoldable pub devices : Format (List Device)
 devices = passing are_few (list_of (listed device))
-<<<<<<< f4895c43
+<<<<<<< 8bde38ab
 
 -- what stands under a tag
 unfoldable pub section : Format Section

@@ -1,7 +1,7 @@
 pub mod Limits
 pub mod Drives
 pub mod Interfaces
-<<<<<<< f4895c43
+<<<<<<< 8bde38ab
 pub mod Mmds
 =======
 >>>>>>> m

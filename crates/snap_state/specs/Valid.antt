@@ -6,7 +6,7 @@ use Rattle.api_calls.specs.declared.balloon.Balloon as balloon
 use Rattle.api_calls.specs.declared.call.Drive.{Drive}
 use Rattle.api_calls.specs.declared.call.MachineConfig.{MachineConfig}
 use Rattle.api_calls.specs.declared.interface.Interface.{Interface}
-<<<<<<< f4895c43
+<<<<<<< 8bde38ab
 use Rattle.api_calls.specs.declared.mmds.MmdsConfig.{MmdsConfig}
 use Rattle.api_calls.specs.declared.vsock.Vsock as vsock
 use Rattle.api_calls.specs.Addresses.{is_small_mac}
@@ -88,7 +88,7 @@ is_interface i =
 abbrev pub are_interfaces : List Interface → Bool
 are_interfaces interfaces = list_all is_interface interfaces && are_apart id_of_interface interfaces
 
-<<<<<<< f4895c43
+<<<<<<< 8bde38ab
 -- the guest's CID is one that a guest may have (VIRTIO 1.2, 5.10.4), and the socket's name is a path
 abbrev pub is_vsock : vsock.Vsock → Bool
 is_vsock v = nat_le 3 v.guest_cid && nat_lt v.guest_cid 4294967295 && is_path v.uds_path
@@ -105,7 +105,7 @@ abbrev pub is_balloon : ℕ → balloon.Balloon → Bool
 is_balloon mib b = nat_le b.amount_mib mib && nat_lt b.stats_polling_interval_s (2 ^ 16)
 
 -- there are as many devices as ports at most
-<<<<<<< f4895c43
+<<<<<<< 8bde38ab
 abbrev pub has_room : List Drive → List Interface → Option vsock.Vsock → Option balloon.Balloon → Bool
 has_room drives interfaces v b = nat_le (count_in drives interfaces v b) most_ports
 =======
@@ -186,7 +186,7 @@ kind_of d = number_of (kept_of d).kind
 abbrev pub kind_configured : Configured → DeviceKind
 kind_configured (of_drive d) = Block
 kind_configured (of_interface i) = Net
-<<<<<<< f4895c43
+<<<<<<< 8bde38ab
 kind_configured (of_vsock v) = Vsock
 kind_configured (of_balloon b) = Balloon
 
@@ -253,7 +253,7 @@ is_valid c =
     is_source c.configuration.boot_source
     && are_drives c.configuration.drives
     && are_interfaces c.configuration.interfaces
-<<<<<<< f4895c43
+<<<<<<< 8bde38ab
     && holds is_vsock c.configuration.vsock
     && holds (is_mmds c.configuration.interfaces) c.configuration.mmds
     && has_machine c c.configuration.machine

@@ -4,7 +4,7 @@ ghost use Rattle.std.specs.Str.{bytes_eq};
 ghost use Rattle.api_calls.specs.Addresses as addresses;
 ghost use Rattle.api_calls.specs.Form.{holds};
 
-<<<<<<< f4895c43
+<<<<<<< 8bde38ab
 use api_calls::is_mac;
 use vm_types::TextList;
 

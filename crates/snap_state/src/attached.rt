@@ -1,4 +1,4 @@
-<<<<<<< f4895c43
+<<<<<<< 8bde38ab
 // Which drives, interfaces and devices there are, and at which of them metadata are given.
 =======
 // Which drives, interfaces and devices there are.
@@ -7,7 +7,7 @@ ghost use Rattle.std.specs.Prelude.{◌≡◌, count_by, nat_le};
 ghost use Rattle.std.specs.List.{list_all};
 ghost use Rattle.api_calls.specs.Drives.{is_root};
 ghost use Rattle.api_calls.specs.Form.{is_id, is_id_byte};
-<<<<<<< f4895c43
+<<<<<<< 8bde38ab
 ghost use Rattle.vm_config.specs.Devices.{balloon_count, vsock_count};
 ghost use Rattle.vm_config.specs.Interfaces.{has_interface};
 =======
@@ -17,12 +17,13 @@ ghost use Rattle.vm_config.specs.Named.{are_apart, has_named};
 ghost use Rattle.snap_state.specs.Valid.{are_devices, are_drives, are_interfaces, has_room, is_device, is_drive, is_interface};
 
 use crate::address::holds_mac;
-<<<<<<< f4895c43
+<<<<<<< 8bde38ab
 use crate::filed::Filed;
 use crate::limits::holds_limiter;
 use crate::valid::is_path;
 use api_calls::{Balloon, Drive, Interface, Vsock};
 use file_format::Listed;
+use port_table::MOST_DEVICES;
 use snap_devices::SavedDevice;
 use vm_config::Named;
 use vm_types::TextList;
@@ -34,10 +35,10 @@ use file_format::Listed;
 use guest_devices::Device;
 use snap_devices::Saved;
 use vm_config::Named;
->>>>>>> m
 
 /// The board has a line for so many devices.
 const MOST_DEVICES: usize = 16;
+>>>>>>> m
 
 const MOST_ID: usize = 64;
 
@@ -133,7 +134,7 @@ pub fn are_interfaces(interfaces: &[Interface]) -> bool
     have_links(interfaces) && are_apart(interfaces)
 }
 
-<<<<<<< f4895c43
+<<<<<<< 8bde38ab
 /// Whether each of these ids is that of one of them.
 pub fn are_there(interfaces: &[Interface], ids: &[TextList]) -> bool
     ensures { result ≡ list_all (has_interface interfaces.now) ids.now }
@@ -152,7 +153,7 @@ fn balloon_count(balloon: &Option<Balloon>) -> usize
     }
 }
 
-<<<<<<< f4895c43
+<<<<<<< 8bde38ab
 /// How many of them there are.
 pub fn vsock_count(vsock: &Option<Filed<Vsock>>) -> usize
     ensures { result ≡ vsock_count vsock.now }
@@ -194,7 +195,7 @@ fn is_device(pages: u32, port: usize, item: &Listed<Saved<Device>>) -> bool
 }
 
 /// Whether these are the devices of the ports from 0 on, in a guest of so many pages.
-<<<<<<< f4895c43
+<<<<<<< 8bde38ab
 pub fn are_devices(pages: u32, devices: &[Listed<SavedDevice>]) -> bool
 =======
 pub fn are_devices(pages: u32, devices: &[Listed<Saved<Device>>]) -> bool

@@ -3,7 +3,7 @@ ghost use Rattle.snap_state.specs.Configured.{boot_source, configuration};
 
 use crate::filed::{Filed, for_file, taken};
 use crate::listed::{SavedDrives, SavedInterfaces};
-<<<<<<< f4895c43
+<<<<<<< 8bde38ab
 use api_calls::{Balloon, MachineConfig, MmdsConfig, Vsock};
 =======
 use api_calls::{Balloon, MachineConfig};
@@ -28,7 +28,7 @@ pub struct Configuration {
     pub drives: SavedDrives,
     /// In the order in which they were first put.
     pub interfaces: SavedInterfaces,
-<<<<<<< f4895c43
+<<<<<<< 8bde38ab
     pub vsock: Option<Filed<Vsock>>,
     pub machine: MachineConfig,
     pub balloon: Option<Balloon>,
@@ -70,7 +70,7 @@ impl Stored for Configuration {
         self.boot_source.write(out)?;
         self.drives.write(out)?;
         self.interfaces.write(out)?;
-<<<<<<< f4895c43
+<<<<<<< 8bde38ab
         self.vsock.write(out)?;
 =======
         write_zeros(1, out)?;
@@ -80,7 +80,7 @@ impl Stored for Configuration {
         write_zeros(1, out)?;
         self.machine.track_dirty_pages.write(out)?;
         for_file(self.balloon).write(out)?;
-<<<<<<< f4895c43
+<<<<<<< 8bde38ab
         self.mmds.write(out)?;
 =======
         write_zeros(1, out)?;
@@ -90,7 +90,7 @@ impl Stored for Configuration {
 
     fn read(alloc: Global, input: &mut Input) -> Result<Configuration, ReadError> {
         read_fixed(&[1], input)?;
-<<<<<<< f4895c43
+<<<<<<< 8bde38ab
         let (boot_source, (drives, (interfaces, vsock))): (
             BootSource,
             (SavedDrives, (SavedInterfaces, Option<Filed<Vsock>>)),
@@ -116,7 +116,7 @@ impl Stored for Configuration {
             boot_source,
             drives,
             interfaces,
-<<<<<<< f4895c43
+<<<<<<< 8bde38ab
             vsock,
 =======
 >>>>>>> m
@@ -126,7 +126,7 @@ impl Stored for Configuration {
                 track_dirty_pages,
             },
             balloon: taken(balloon),
-<<<<<<< f4895c43
+<<<<<<< 8bde38ab
             mmds,
 =======
 >>>>>>> m

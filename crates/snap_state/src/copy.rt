@@ -7,7 +7,7 @@ ghost use Rattle.snap_state.specs.Copies.{reservation, section, sections_in, sta
 use crate::board::SavedBoard;
 use crate::configuration::Configuration;
 use crate::devices::{read_devices, write_devices};
-<<<<<<< f4895c43
+<<<<<<< 8bde38ab
 use file_format::{Counted, Input, Items, Listed, ReadError, Stored, Version};
 =======
 use file_format::{Counted, Input, Items, Listed, ReadError, Stored};
@@ -49,7 +49,7 @@ pub struct StateCopy {
     /// The ports of the devices, by their numbers.
     pub ports: Items<Counted<Saved<Port>>>,
     /// The devices, each by the number of its port.
-<<<<<<< f4895c43
+<<<<<<< 8bde38ab
     pub devices: Items<Listed<SavedDevice>>,
 =======
     pub devices: Items<Listed<Saved<Device>>>,

@@ -4,7 +4,8 @@ ghost use Rattle.file_format.specs.Reading.{Takes};
 ghost use Rattle.snap_state.specs.Copies.{devices};
 
 use file_format::{Input, Items, Listed, ReadError, Stored, read_items};
-<<<<<<< f4895c43
+<<<<<<< 8bde38ab
+use port_table::MOST_DEVICES;
 use snap_devices::SavedDevice;
 =======
 use guest_devices::Device;
@@ -12,12 +13,9 @@ use snap_devices::Saved;
 >>>>>>> m
 use std::alloc::{AllocError, Global};
 
-/// The board has a line for so many devices.
-const MOST_DEVICES: usize = 16;
-
 /// Puts the devices at the end. More than there can be are given up as if there were no memory.
 #[tactic(auto, unfolding(crate::specs::Copies::devices))]
-<<<<<<< f4895c43
+<<<<<<< 8bde38ab
 pub fn write_devices(list: &Items<Listed<SavedDevice>>, out: &mut Vec<u8>) -> Result<(), AllocError>
 =======
 pub fn write_devices(
@@ -39,7 +37,7 @@ pub fn write_devices(
 pub fn read_devices(
     alloc: Global,
     input: &mut Input,
-<<<<<<< f4895c43
+<<<<<<< 8bde38ab
 ) -> Result<Items<Listed<SavedDevice>>, ReadError>
 =======
 ) -> Result<Items<Listed<Saved<Device>>>, ReadError>

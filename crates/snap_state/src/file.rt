@@ -19,7 +19,7 @@ use vm_types::Identity;
 /// How many bytes the header of a state file has.
 pub const STATE_HEADER: usize = 32;
 
-<<<<<<< f4895c43
+<<<<<<< 8bde38ab
 /// What stands behind its gate: "RVFCSTA", and the version.
 pub fn state_magic(version: Version) -> [u8; 11]
     ensures { result ≡ magic version }
@@ -80,7 +80,7 @@ pub fn decode(alloc: Global, bytes: &[u8]) -> Result<Saved, DecodeError>
     if is_closed(bytes, STATE_HEADER) {
         return Err(DecodeError::GateClosed);
     }
-<<<<<<< f4895c43
+<<<<<<< 8bde38ab
     let version = version_of(bytes);
     if is_other(bytes, &state_magic(version)) {
 =======
@@ -107,7 +107,7 @@ fn with_header(alloc: Global, identity: Identity, body: &[u8]) -> Result<Vec<u8>
         return Err(AllocError);
     };
     let mut behind = Vec::new(alloc);
-<<<<<<< f4895c43
+<<<<<<< 8bde38ab
     behind.extend_from_slice(&state_magic(Version::Two))?;
 =======
     behind.extend_from_slice(&STATE_MAGIC)?;
@@ -126,7 +126,7 @@ pub fn encode_behind_gate(
 ) -> Result<Vec<u8>, AllocError>
     requires valid { IsTrue (is_valid copy.now) }
     requires numbered { IsTrue (is_numbered identity) }
-<<<<<<< f4895c43
+<<<<<<< 8bde38ab
     ensures encodes { IfOk result (λ behind. Encodes (1 ∷ behind.items) (record { identity = identity; copy = copy.now })) }
     ensures version { IfOk result (λ behind. version_of (1 ∷ behind.items) ≡ current_version) }
 =======

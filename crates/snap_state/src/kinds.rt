@@ -1,6 +1,6 @@
 // Which kinds of ports and devices there are.
 ghost use Rattle.std.specs.Prelude.{◌≡◌, map, slice_get};
-<<<<<<< f4895c43
+<<<<<<< 8bde38ab
 ghost use Rattle.vm_config.specs.Devices.{balloon_devices, vsock_devices};
 ghost use Rattle.snap_state.specs.Valid as valid;
 
@@ -46,7 +46,7 @@ fn is_kind_due(due: Option<DeviceKind>, kind: DeviceKind) -> bool
     }
 }
 
-<<<<<<< f4895c43
+<<<<<<< 8bde38ab
 fn vsock_kind(vsock: &Option<Filed<Vsock>>) -> Option<DeviceKind>
     ensures { result ≡ slice_get (map valid.kind_configured (vsock_devices vsock.now)) 0 }
 {
@@ -80,7 +80,7 @@ fn kind_due(configuration: &Configuration, number: usize) -> Option<DeviceKind>
     if behind < interfaces {
         return Some(DeviceKind::Net);
     }
-<<<<<<< f4895c43
+<<<<<<< 8bde38ab
     let last = behind - interfaces;
     let sockets = vsock_count(&configuration.vsock);
     if last < sockets {
@@ -111,7 +111,7 @@ pub fn are_ports(configuration: &Configuration, ports: &[Counted<Saved<Port>>]) 
 }
 
 /// Whether these are the devices that are configured.
-<<<<<<< f4895c43
+<<<<<<< 8bde38ab
 pub fn are_device_kinds(configuration: &Configuration, devices: &[Listed<SavedDevice>]) -> bool
     ensures { result ≡ valid.are_kinds (valid.kinds_of configuration.now) 0 (map valid.kind_of devices.now) }
 {

@@ -22,7 +22,7 @@ mod kinds;
 mod law;
 mod limits;
 mod listed;
-<<<<<<< f4895c43
+<<<<<<< 8bde38ab
 mod mmds;
 =======
 >>>>>>> m
@@ -32,7 +32,7 @@ mod vsock;
 pub use board::SavedBoard;
 pub use configuration::{BootSource, Configuration};
 pub use copy::{Reservation, Section, StateCopy};
-<<<<<<< f4895c43
+<<<<<<< 8bde38ab
 pub use file::{STATE_HEADER, Saved, decode, encode_behind_gate, state_magic};
 pub use filed::{Filed, taken};
 =======

@@ -98,7 +98,7 @@ differs a b other = false_from_ne_true (is_same a b) (λ e.
 all_three : (a b c : Bool) → a ≡ true → b ≡ true → c ≡ false → (a && b && not c) ≡ true
 all_three a b c p q r = rw (p, q, r) refl
 
-<<<<<<< f4895c43
+<<<<<<< 8bde38ab
 names_fit : (pages : ℕ) (parent own : Identity) → identity.Fits parent → memory.header.Fits (memory.new_header pages own)
     → diffs.names.Fits (record { pages = pages; parent = parent; identity = own })
 unfolding memory.header diffs.names
@@ -120,7 +120,7 @@ module _ (s : Saving) (parent : Identity) (is : IsSaving snapshot.Diff s) (base 
   pub diff_is_file : IsDiffFile (diff_file (diff_since parent s)) (diff_since parent s)
   diff_is_file =
       is_file parent (identity_of s) s.copy.pages s.guest
-<<<<<<< f4895c43
+<<<<<<< 8bde38ab
       (names_fit s.copy.pages parent (identity_of s) of (fits snapshot.Diff s is))
 =======
       (header_fits s.copy.pages (length (diff_since parent s).numbers) parent (identity_of s) of (written_few s.guest.written 0 s.copy.pages) (fits snapshot.Diff s is))

@@ -20,7 +20,7 @@ use Rattle.vm_config.specs.declared.change.Change.TheVariants as change
 use Rattle.vm_config.specs.Changes.{with_amount, with_interval}
 use Rattle.vm_config.specs.Devices.{balloon_device, interface_device}
 use Rattle.vm_config.specs.Drives.{device_of}
-use Rattle.response_form.specs.Responses.{Response}
+use Rattle.responses.specs.Responses.{Response}
 use Rattle.board_table.specs.Board.{Board}
 use Rattle.board_table.specs.Acts.{line_count, raise_line}
 use Rattle.port_table.specs.declared.state.PortState.{PortState}
@@ -127,7 +127,7 @@ leaves_on (change.PatchInterface patch) m n on is =
     ∙ relimited_on transmits_told patch.tx_rate_limiter number (relimited receives_told patch.rx_rate_limiter number m.guest)
     (relimited_on receives_told patch.rx_rate_limiter number m.guest on)
 leaves_on (change.MachineConfig machine) m n on is = ap is_off is ∙ on
-<<<<<<< f4895c43
+<<<<<<< 8bde38ab
 leaves_on (change.PutVsock vsock) m n on is = ap is_off is ∙ on
 =======
 >>>>>>> m
@@ -157,7 +157,7 @@ fails_on (change.PatchDrive patch) m left n on x = on_is m n x.3 on
 fails_on (change.PutInterface interface) m left n on x = absurd x
 fails_on (change.PatchInterface patch) m left n on x = absurd x
 fails_on (change.MachineConfig machine) m left n on x = absurd x
-<<<<<<< f4895c43
+<<<<<<< 8bde38ab
 fails_on (change.PutVsock vsock) m left n on x = absurd x
 =======
 >>>>>>> m

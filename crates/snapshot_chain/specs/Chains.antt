@@ -20,7 +20,7 @@ use Rattle.flat_machine.specs.Machine.{Machine}
 use Rattle.flat_machine.specs.Outcome.{Outcome}
 use Rattle.flat_machine.specs.Requests.{Creates, RequestStep, carried, next_identity}
 use Rattle.flat_machine.specs.Run.{Act, Run}
-use Rattle.response_form.specs.Responses.{Response}
+use Rattle.responses.specs.Responses.{Response}
 
 -- ---- a create that was answered
 

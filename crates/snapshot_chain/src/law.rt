@@ -15,7 +15,7 @@ ghost use Rattle.snap_diff.specs.Copies.{LeadBy};
 ghost use Rattle.snap_diff.specs.Diffs.{IsDiffFile};
 ghost use Rattle.snap_state.specs.declared.copy.StateCopy.{StateCopy};
 ghost use Rattle.guest_devices.specs.declared.device.Device.{Device};
-ghost use Rattle.response_form.specs.Responses.{Response};
+ghost use Rattle.responses.specs.Responses.{Response};
 ghost use Rattle.snapshot_merge.specs.InOrder.{MergeAll};
 ghost use Rattle.snapshot_merge.specs.Memories.{IsMemoryFile};
 ghost use Rattle.flat_snapshot.specs.Files.{state_file};

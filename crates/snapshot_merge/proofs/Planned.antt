@@ -1,11 +1,12 @@
 -- What is found under two names.
-use Rattle.std.proofs.Common.{◌≡◌, ◌≢◌, ℕ, ◌+◌, ◌≤◌, Bool, true, false, cond, not, List, length, drop, take, get_or, Option, Some, None, Result, Ok, Err, refl, sym, ap, subst, ◌∙◌, arith}
+use Rattle.std.proofs.Common.{◌≡◌, ◌≢◌, ℕ, ◌+◌, ◌≤◌, Bool, true, false, cond, List, length, drop, take, get_or, Option, Some, None, Result, Ok, Err, refl, sym, ap, subst, ◌∙◌, arith}
 use Rattle.std.specs.Str.{bytes_eq}
 use Rattle.std.proofs.lemmas.List.{get_or-drop, get_or-take}
 use Rattle.std.proofs.lemmas.Slice.Eq.{bytes_eq-Decides}
 use Rattle.std.specs.Option.{option_map}
 use Rattle.vm_types.specs.Saved.{Saved}
 use Rattle.std.specs.FinMap.{get}
+use Rattle.std.proofs.lemmas.Bool.{not-false}
 use Rattle.refusals.specs.declared.refusal.Refusal.{Refusal}
 use Rattle.refusals.specs.declared.refusal.Refusal.TheVariants as refusal
 use Rattle.file_format.specs.Starts.{is_closed, is_other}
@@ -118,10 +119,6 @@ no_refusal : (A : Type 0) (c : Bool) (why : Refusal) (r : Result A Refusal) (v :
 no_refusal A true why r v is = absurd cc
 no_refusal A false why r v is = (refl, is)
 
-not_other : (b : Bool) → not b ≡ false → b ≡ true
-not_other true is = refl
-not_other false is = absurd cc
-
 fifth : (n : ℕ) (given word : List ℕ) → 6 ≤ n → bytes_eq (take 11 (drop 1 (take n given))) word ≡ true → get_or word 4 0 ≡ get_or given 5 0
 fifth n given word long same =
     ap (λ (l : List ℕ). get_or l 4 0) (sym ((bytes_eq-Decides (take 11 (drop 1 (take n given))) word).0 same))
@@ -137,8 +134,8 @@ not_both (Some given) h d base diff =
     let start : List ℕ = take 64 given in
     let d1 = no_refusal DiffCopy (is_closed 64 start) refusal.GateClosed (cond (is_other (diffs.magic (version_of start)) start) (Err refusal.WrongMagic) (header_read (drop 64 given) (diffs.header.reads start))) d diff in
     let d2 = no_refusal DiffCopy (is_other (diffs.magic (version_of start)) start) refusal.WrongMagic (header_read (drop 64 given) (diffs.header.reads start)) d d1.1 in
-    let one : 77 ≡ get_or given 5 0 = fifth 4096 given memory.magic (omega arith) (not_other _ b2.0) in
-    let two : 68 ≡ get_or given 5 0 = fifth 64 given (diffs.magic (version_of start)) (omega arith) (not_other _ d2.0) in
+    let one : 77 ≡ get_or given 5 0 = fifth 4096 given memory.magic (omega arith) (not-false _ b2.0) in
+    let two : 68 ≡ get_or given 5 0 = fifth 64 given (diffs.magic (version_of start)) (omega arith) (not-false _ d2.0) in
     let bad : 77 ≡ 68 = one ∙ sym two in
     omega (arith, bad)
 

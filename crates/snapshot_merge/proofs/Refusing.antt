@@ -9,6 +9,7 @@ use Rattle.vm_outside.specs.Calls.FileCall.{Synced}
 use Rattle.vm_outside.specs.Crashes.{Disk, Images, NoFile}
 use Rattle.vm_outside.specs.Filing.{SameFiles}
 use Rattle.vm_outside.specs.Known.{FilesKnown}
+use Rattle.vm_outside.proofs.Passing.{same_more}
 use Rattle.gate_file.specs.Moments.{AsBefore}
 use Rattle.gate_file.proofs.Staging.{Step, left_then}
 use Rattle.snapshot_merge.specs.declared.error.RebaseError.{RebaseError}
@@ -18,9 +19,6 @@ use Rattle.snapshot_merge.specs.Rebasing.{Rebases, refused_calls}
 use Rattle.snapshot_merge.proofs.Whole.{all_since, part_since}
 
 -- ---- from before the files were read
-
-same_on : (a b c : FilesKnown) → SameFiles a b → SameFiles b c → SameFiles a c
-same_on a b c first second = record { saved = second.saved ∙ first.saved; calls = second.calls ∙ first.calls }
 
 pub since : {T : Type 0} (base diff : List ℕ) (r : Result T RebaseError) (old mid new : FilesKnown) → SameFiles old mid → Rebases base diff r mid new → Rebases base diff r old new
 since base diff (Ok done) old mid new same m = record {
@@ -36,7 +34,7 @@ since base diff (Err (Refused why)) old mid new same r = record {
   calls = r.calls ∙ ap (λ (l : List FileCall). l ++ refused_calls mid.saved base diff) same.calls
       ∙ ap (λ (s : Saved). old.calls ++ refused_calls s base diff) same.saved;
 }
-since base diff (Err Fault) old mid new same (inl none) = inl (same_on old mid new same none)
+since base diff (Err Fault) old mid new same (inl none) = inl (same_more old mid new same none)
 since base diff (Err Fault) old mid new same (inr m) = inr (record {
   plan = m.plan;
   text = m.text;
@@ -44,7 +42,7 @@ since base diff (Err Fault) old mid new same (inr m) = inr (record {
   there = ap (λ (s : Saved). get s base) (sym same.saved) ∙ m.there;
   runs = part_since base _ old mid new same m.runs;
 })
-since base diff (Err OutOfMemory) old mid new same none = same_on old mid new same none
+since base diff (Err OutOfMemory) old mid new same none = same_more old mid new same none
 
 -- ---- what a stop inside it leaves
 

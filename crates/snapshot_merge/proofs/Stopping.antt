@@ -22,7 +22,7 @@ use Rattle.snapshot_merge.proofs.Standing.{At, Going, at_bytes, base_at, from_at
 pub same_some : (x y : List ℕ) → ◌≡◌ {A = Option (List ℕ)} (Some x) (Some y) → x ≡ y
 same_some x y same = cc
 
-not_both : (p : Plan) → ◌≡◌ {A = Result Plan Refusal} (Ok p) (Err refusal.ParentDiffers) → ⊥
+pub not_both : (p : Plan) → ◌≡◌ {A = Result Plan Refusal} (Ok p) (Err refusal.ParentDiffers) → ⊥
 not_both p wrong = cc
 
 module _ (base diff file : List ℕ) (m : MemoryCopy) (d : DiffCopy) (joins : Joins m d) (of : IsBytes file) (is_d : IsDiffFile file d) where

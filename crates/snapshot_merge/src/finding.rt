@@ -113,7 +113,7 @@ fn find_rest<F: Files>(
     ensures cause { RebaseCause result (F.known files.old).health.faults (F.known files.new).health.faults }
     ensures lasts { Lasts (F.known files.old).health (F.known files.new).health }
 {
-<<<<<<< f4895c43
+<<<<<<< 8bde38ab
     match table_of(alloc, files, name, header) {
         Ok(runs) => check_pages(alloc, files, name, DiffStart { header, runs }),
 =======

@@ -83,7 +83,7 @@ fn size_diff(size: u64, header: DiffHeader) -> Result<DiffHeader, RebaseError>
     ensures header { IfOk result (λ h. IsHeader h) }
     ensures cause { (n : ℕ) → RebaseCause result n n }
 {
-<<<<<<< f4895c43
+<<<<<<< 8bde38ab
     if size == DiffHeader::SIZE as u64 + header.size_behind() {
 =======
     if size == DiffHeader::SIZE as u64 + (4 + PAGE_SIZE as u64) * header.count as u64 {
@@ -107,7 +107,7 @@ pub(crate) fn judge_table(
     ensures table { IfOk result (λ runs. IsTrue (is_table header runs)) }
     ensures cause { (n : ℕ) → RebaseCause result n n }
 {
-<<<<<<< f4895c43
+<<<<<<< 8bde38ab
     match read_table(alloc, &header, &bytes[DiffHeader::SIZE..]) {
         Ok(runs) => Ok(runs),
         Err(ReadError::Bad) => Err(RebaseError::Refused(Refusal::BadField)),

@@ -15,7 +15,7 @@ ghost use Rattle.vm_outside.specs.Known.{Called, Tells};
 
 use crate::finding::DiffStart;
 use guest_memory::PAGE_SIZE;
-<<<<<<< f4895c43
+<<<<<<< 8bde38ab
 use snap_diff::{DiffHeader, Run};
 =======
 use snap_diff::{DiffHeader, table_page};
@@ -137,7 +137,7 @@ fn put_pages<F: Files>(
         (F.known files.old) (F.known files.new)) }
     ensures called { Called (F.known files.old).health (F.known files.new).health result }
 {
-<<<<<<< f4895c43
+<<<<<<< 8bde38ab
     let _size = start.header.size_behind();
     let mut at = DiffHeader::SIZE as u64 + start.header.table_size();
     let runs = start.runs.as_slice();

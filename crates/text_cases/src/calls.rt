@@ -2,7 +2,7 @@
 use crate::escapes::bytes_of;
 use crate::words::{add_limits, add_number, add_word};
 use api_calls::{
-<<<<<<< f4895c43
+<<<<<<< 8bde38ab
     ApiCall, Balloon, CacheType, Drive, DrivePatch, Interface, InterfacePatch, MmdsConfig, Part,
     VmState, Vsock,
 =======
@@ -15,7 +15,7 @@ use metadata_store::MetadataVersion;
 use std::alloc::{AllocError, Global};
 use vm_types::{ByteList, TextList};
 
-<<<<<<< f4895c43
+<<<<<<< 8bde38ab
 /// Puts the name of the call of a method, a path and a body at the end, for a drive, an interface, a vsock device, a balloon and a
 /// PUT of /mmds/config with its fields, or the number of its refusal.
 =======
@@ -74,7 +74,7 @@ fn add_call(call: &ApiCall, text: &mut String) -> Result<(), AllocError> {
         ApiCall::PatchDrive(patch) => add_patch(patch, text),
         ApiCall::PutInterface(interface) => add_interface(interface, text),
         ApiCall::PatchInterface(patch) => add_interface_patch(patch, text),
-<<<<<<< f4895c43
+<<<<<<< 8bde38ab
         ApiCall::PutVsock(vsock) => add_vsock(vsock, text),
         ApiCall::PutBalloon(balloon) => add_balloon(balloon, text),
         ApiCall::PatchBalloon(patch) => add_number(patch.amount_mib, text),
@@ -148,7 +148,7 @@ fn add_interface_patch(patch: &InterfacePatch, text: &mut String) -> Result<(), 
     add_limits("tx", &patch.tx_rate_limiter, text)
 }
 
-<<<<<<< f4895c43
+<<<<<<< 8bde38ab
 fn add_vsock(vsock: &Vsock, text: &mut String) -> Result<(), AllocError> {
     add_number(vsock.guest_cid, text)?;
     add_word(vsock.uds_path.as_str(), text)
@@ -168,7 +168,7 @@ fn deflating_word(balloon: &Balloon) -> &'static str {
     } else {
         "stays"
     }
-<<<<<<< f4895c43
+<<<<<<< 8bde38ab
 }
 
 fn add_mmds(mmds: &MmdsConfig, text: &mut String) -> Result<(), AllocError> {
@@ -195,7 +195,7 @@ fn name(call: &ApiCall) -> &'static str {
         ApiCall::PatchDrive(_) => "drive-patch",
         ApiCall::PutInterface(_) => "interface-put",
         ApiCall::PatchInterface(_) => "interface-patch",
-<<<<<<< f4895c43
+<<<<<<< 8bde38ab
         ApiCall::PutVsock(_) => "vsock-put",
 =======
 >>>>>>> m
@@ -204,7 +204,7 @@ fn name(call: &ApiCall) -> &'static str {
         ApiCall::PutBalloon(_) => "balloon-put",
         ApiCall::PatchBalloon(_) => "balloon-patch",
         ApiCall::PatchStatistics(_) => "statistics-patch",
-<<<<<<< f4895c43
+<<<<<<< 8bde38ab
         ApiCall::PutMmdsConfig(_) => "mmds-put",
 =======
 >>>>>>> m

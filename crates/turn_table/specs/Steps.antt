@@ -42,10 +42,6 @@ pub record IsTaken {P : Type 0} (made : P → Type 0) (i n : ℕ) (before after 
 abbrev pub Takes : {P : Type 0} → (P → Type 0) → Step (Held P) → Mine P → ℕ → Mine P → Type 0
 Takes made s before found after = MatchBool (found == s.first) (IsTaken made s.word found before after) (after ≡ before)
 
--- it has the turn, whose word became the odd number stored
-abbrev pub Grabs : {P : Type 0} → (P → Type 0) → Step (Held P) → Mine P → ℕ → Mine P → Type 0
-Grabs made s before stored after = (n : ℕ) × (stored ≡ n + 1) × IsTaken made s.word n before after
-
 -- what the seat took last goes back, and what was done to it is noted
 abbrev pub put_down : {P : Type 0} → Mine P → Mine P
 put_down (v, []) = (v, [])

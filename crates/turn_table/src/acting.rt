@@ -10,7 +10,7 @@ ghost use Rattle.turn_table.specs.Steps.{IsTaken, Acted, HasTurn, IsReady};
 
 use crate::fed::Fed;
 use crate::held::Held;
-use crate::law::{Grab, Release, Take};
+use crate::law::{Release, Take};
 use crate::note::Note;
 use crate::turns::{TurnSeat, Turns};
 use pause_gate::Gate;
@@ -20,9 +20,6 @@ use vm_types::{ActorId, Entry, Op};
 
 /// At a word from here on nobody gets a turn any more. So many acts no place has.
 const LAST: u64 = 1 << 63;
-
-/// From here on the turns at a place are counted that are taken at once.
-const ANEW: u64 = 1 << 49;
 
 /// Where an actor acts, and its last stamp in this round.
 #[derive(Clone, Copy, Drop)]
@@ -172,51 +169,5 @@ impl<P: Fed> Turns<P> {
             hint::spin_loop();
         }
         unreachable!()
-    }
-
-    // Takes the turn at a place at once, by the seat that has all parts. The place's turns are counted anew.
-    fn grab(&self, seat: &mut TurnSeat<P>, place: usize)
-        requires seat { IsReady self.now.table.shared.table_id self.now.round seat.old }
-        requires whole { seat.old.me.0.parts ≡ self.now.table.shared.key.parts }
-        requires place { place < self.now.table.shared.table_id.words }
-        ensures seat { (seat.new.table_id ≡ seat.old.table_id) × (seat.new.id ≡ seat.old.id) }
-        ensures taken { IsTaken P.made place (2 ^ 49) seat.old.me seat.new.me }
-    {
-        self.table.shared.store::<Grab<P>>(seat, place, ANEW + 1);
-    }
-
-    /// The same by the seat that has all parts, as between the rounds of harts. It doesn't wait.
-    pub fn act_alone<G: Gate>(
-        &self,
-        gate: &G,
-        seat: &mut TurnSeat<P>,
-        place: usize,
-        actor: ActorId,
-        clock: &mut u64,
-        pool: &mut P::Pool,
-        op: &Op,
-    ) -> Entry
-        requires seat { IsReady self.now.table.shared.table_id self.now.round seat.old }
-        requires whole { seat.old.me.0.parts ≡ self.now.table.shared.key.parts }
-        requires room { length seat.old.me.0.entries < 2 ^ 32 * seat.old.me.0.parts }
-        requires place { place < self.now.table.shared.table_id.words }
-        requires clock { clock.old < 2 ^ 63 }
-        requires fed { CanFeed P.made seat.old.me.0 place (P.blanks pool.old) }
-        ensures seat { IsReady self.now.table.shared.table_id self.now.round seat.new }
-        ensures noted { IsNoted P.made place result seat.old.me.0 seat.new.me.0 (P.blanks pool.old) (P.blanks pool.new) }
-        ensures entry { IsEntryAt seat.old.me.0 place result actor op.now clock.old }
-        ensures clock { clock.new ≡ result.stamp }
-        ensures one { IsOneAtMost (P.blanks pool.old) (P.blanks pool.new) }
-        ensures none { IsMadeAt P.made seat.old.me.0 place → P.blanks pool.new ≡ P.blanks pool.old }
-    {
-        self.grab(seat, place);
-        let post = Post {
-            place,
-            actor,
-            clock: *clock,
-        };
-        let entry = self.act_and_give(gate, seat, ANEW, post, pool, op);
-        *clock = entry.stamp;
-        entry
     }
 }

@@ -30,17 +30,6 @@ impl<P: Fed> Play<Held<P>, View<P>> for Take<P> {
     ghost then = { Takes P.made };
 }
 
-/// A turn is taken at once, by the seat that has all parts.
-pub struct Grab<P> {
-    of: PhantomData<P>,
-}
-
-impl<P: Fed> Play<Held<P>, View<P>> for Grab<P> {
-    ghost use Rattle.turn_table.specs.Steps.{Grabs};
-
-    ghost then = { Grabs P.made };
-}
-
 /// The turn is given up.
 pub struct Release;
 

@@ -9,7 +9,7 @@ use Rattle.std.proofs.lemmas.Option.{slice_get-map}
 use Rattle.api_calls.specs.declared.balloon.Balloon.{Balloon}
 use Rattle.api_calls.specs.declared.call.Drive.{Drive}
 use Rattle.api_calls.specs.declared.interface.Interface.{Interface}
-<<<<<<< f4895c43
+<<<<<<< 8bde38ab
 use Rattle.api_calls.specs.declared.vsock.Vsock.{Vsock}
 use Rattle.vm_config.specs.declared.config.Config.{Config}
 use Rattle.vm_config.specs.Devices.{balloon_count, balloon_device, balloon_devices, count_in, device_count, devices_in, devices_of, interface_device, of_balloon, of_drive, of_interface, vsock_count, vsock_devices}
@@ -73,7 +73,7 @@ length-ordered drives =
 length-drives : (drives : List Drive) → length (map of_drive (in_order drives)) ≡ length drives
 length-drives drives = length-map (in_order drives) of_drive ∙ length-ordered drives
 
-<<<<<<< f4895c43
+<<<<<<< 8bde38ab
 length-vsock : (vsock : Option Vsock) → length (vsock_devices vsock) ≡ vsock_count vsock
 length-vsock None = refl
 length-vsock (Some v) = refl
@@ -84,7 +84,7 @@ length-balloon : (balloon : Option Balloon) → length (balloon_devices balloon)
 length-balloon None = refl
 length-balloon (Some b) = refl
 
-<<<<<<< f4895c43
+<<<<<<< 8bde38ab
 pub counted_in : (drives : List Drive) (interfaces : List Interface) (vsock : Option Vsock) (balloon : Option Balloon)
     → length (devices_in drives interfaces vsock balloon) ≡ count_in drives interfaces vsock balloon
 counted_in drives interfaces vsock balloon =
@@ -114,7 +114,7 @@ counted_in drives interfaces balloon =
     )
 
 pub counted : (config : Config) → length (devices_of config) ≡ device_count config
-<<<<<<< f4895c43
+<<<<<<< 8bde38ab
 counted config = counted_in config.drives config.interfaces config.vsock config.balloon
 =======
 counted config = counted_in config.drives config.interfaces config.balloon
@@ -138,7 +138,7 @@ pub interface_at : (config : Config) (id : List ℕ) (k : ℕ) → interface_dev
 interface_at config id k is =
     let number = counted_on (length config.drives) k (position (is_interface id) config.interfaces) is in
     let found = at_position (is_interface id) config.interfaces number.0 number.1 in
-<<<<<<< f4895c43
+<<<<<<< 8bde38ab
     let among = in_front _ (vsock_devices config.vsock ++ balloon_devices config.balloon) number.0 _ (mapped of_interface config.interfaces number.0 found.0 found.1) in
 =======
     let among = in_front _ (balloon_devices config.balloon) number.0 _ (mapped of_interface config.interfaces number.0 found.0 found.1) in
@@ -156,7 +156,7 @@ first_balloon (Some c) b is = let same : c ≡ b = cc in ap (λ (x : Balloon). S
 pub balloon_at : (config : Config) (k : ℕ) → balloon_device config ≡ Some k
     → (b : Balloon) × (config.balloon ≡ Some b) × (slice_get (devices_of config) k ≡ Some (of_balloon b))
 balloon_at config k is =
-<<<<<<< f4895c43
+<<<<<<< 8bde38ab
     let interfaces : ℕ = length config.interfaces in
     let vsocks : ℕ = vsock_count config.vsock in
     let there = balloon_of (length config.drives + interfaces + vsocks) k config.balloon is in

@@ -1,7 +1,7 @@
 -- No number that is told is one that isn't whole.
 use Rattle.std.proofs.Common.{◌≡◌, ℕ, false, List, [], ◌∷◌, map, Option, Some, None, refl}
 use Rattle.std.proofs.lemmas.Bool.{or_from}
-<<<<<<< f4895c43
+<<<<<<< 8bde38ab
 use Rattle.serde_json.specs.Data.{string}
 =======
 >>>>>>> m
@@ -13,7 +13,7 @@ use Rattle.api_calls.specs.declared.call.Drive.{Drive}
 use Rattle.api_calls.specs.declared.interface.Interface.{Interface}
 use Rattle.api_calls.specs.declared.limiter.BucketConfig.{BucketConfig}
 use Rattle.api_calls.specs.declared.limiter.Limiter.{Limiter}
-<<<<<<< f4895c43
+<<<<<<< 8bde38ab
 use Rattle.api_calls.specs.declared.mmds.MmdsConfig.{MmdsConfig}
 use Rattle.api_calls.specs.declared.vsock.Vsock.{Vsock}
 =======
@@ -59,7 +59,7 @@ source_whole : (s : Option BootSource) → has_float (texts.boot_source s) ≡ f
 source_whole None = refl
 source_whole (Some s) = or_from _ _ (text_whole s.initrd_path) refl
 
-<<<<<<< f4895c43
+<<<<<<< 8bde38ab
 ids_whole : (ts : List (List ℕ)) → items_have_float (items_of (map string ts)) ≡ false
 ids_whole [] = refl
 ids_whole (t ∷ ts) = ids_whole ts
@@ -82,7 +82,7 @@ pub config_whole : (c : Config) → has_float (texts.vm_config c) ≡ false
 config_whole c =
     or_from _ _ (balloon_whole c.balloon)
     (or_from _ _ (source_whole c.boot_source)
-<<<<<<< f4895c43
+<<<<<<< 8bde38ab
     (or_from _ _ (drives_whole c.drives)
     (or_from _ _ (mmds_whole c.mmds) (or_from _ _ (interfaces_whole c.interfaces) (or_from _ _ (vsock_whole c.vsock) refl)))))
 =======

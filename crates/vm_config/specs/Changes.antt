@@ -9,7 +9,7 @@ use Rattle.vm_config.specs.declared.config.Config.{Config}
 use Rattle.vm_config.specs.declared.change.Change.{Change}
 use Rattle.vm_config.specs.declared.change.Change.TheVariants as change
 
-<<<<<<< f4895c43
+<<<<<<< 8bde38ab
 -- no boot source, no drive, no interface, no vsock device, no balloon, no metadata for the guest, one hart and 128 MiB
 =======
 -- no boot source, no drive, no interface, no balloon, one hart and 128 MiB
@@ -19,7 +19,7 @@ default_config = record {
   boot_source = None;
   drives = [];
   interfaces = [];
-<<<<<<< f4895c43
+<<<<<<< 8bde38ab
   vsock = None;
   machine = record { vcpu_count = 1; mem_size_mib = 128; track_dirty_pages = false };
   balloon = None;
@@ -39,7 +39,7 @@ abbrev pub with_interval : StatisticsPatch → Option Balloon → Option Balloon
 with_interval patch balloon =
     option_map (λ (b : Balloon). record b { stats_polling_interval_s = patch.stats_polling_interval_s }) balloon
 
-<<<<<<< f4895c43
+<<<<<<< 8bde38ab
 -- What is allowed only before boot makes it configured: a boot source, a drive, an interface, a vsock device, a machine, a balloon,
 -- how the guest is given metadata, a start and a load. What was configured before is replaced. The metadata are no part of it.
 =======
@@ -53,7 +53,7 @@ changed config (change.PatchDrive patch) = record config { drives = patch_drive 
 changed config (change.PutInterface interface) =
     record config { interfaces = put_interface config.interfaces interface; configured = true }
 changed config (change.PatchInterface patch) = record config { interfaces = patch_interface config.interfaces patch }
-<<<<<<< f4895c43
+<<<<<<< 8bde38ab
 changed config (change.PutVsock vsock) = record config { vsock = Some vsock; configured = true }
 =======
 >>>>>>> m
@@ -61,7 +61,7 @@ changed config (change.MachineConfig machine) = record config { machine = machin
 changed config (change.PutBalloon balloon) = record config { balloon = Some balloon; configured = true }
 changed config (change.PatchBalloon patch) = record config { balloon = with_amount patch config.balloon }
 changed config (change.PatchStatistics patch) = record config { balloon = with_interval patch config.balloon }
-<<<<<<< f4895c43
+<<<<<<< 8bde38ab
 changed config (change.MmdsConfig mmds) = record config { mmds = Some mmds; configured = true }
 =======
 >>>>>>> m
@@ -80,7 +80,7 @@ takes_memory (change.PutDrive drive) = true
 takes_memory (change.PatchDrive patch) = false
 takes_memory (change.PutInterface interface) = true
 takes_memory (change.PatchInterface patch) = false
-<<<<<<< f4895c43
+<<<<<<< 8bde38ab
 takes_memory (change.PutVsock vsock) = false
 =======
 >>>>>>> m
@@ -88,7 +88,7 @@ takes_memory (change.MachineConfig machine) = false
 takes_memory (change.PutBalloon balloon) = false
 takes_memory (change.PatchBalloon patch) = false
 takes_memory (change.PatchStatistics patch) = false
-<<<<<<< f4895c43
+<<<<<<< 8bde38ab
 takes_memory (change.MmdsConfig mmds) = false
 =======
 >>>>>>> m

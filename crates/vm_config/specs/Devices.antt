@@ -1,4 +1,4 @@
-<<<<<<< f4895c43
+<<<<<<< 8bde38ab
 -- The devices of a machine by their numbers: the root drive, the other drives, the interfaces, the vsock device and the balloon. Drives and
 =======
 -- The devices of a machine by their numbers: the root drive, the other drives, the interfaces and the balloon. Drives and
@@ -9,7 +9,7 @@ use Rattle.std.specs.List.{position}
 use Rattle.api_calls.specs.declared.balloon.Balloon.{Balloon}
 use Rattle.api_calls.specs.declared.call.Drive.{Drive}
 use Rattle.api_calls.specs.declared.interface.Interface.{Interface}
-<<<<<<< f4895c43
+<<<<<<< 8bde38ab
 use Rattle.api_calls.specs.declared.vsock.Vsock.{Vsock}
 =======
 >>>>>>> m
@@ -21,7 +21,7 @@ use Rattle.vm_config.specs.Interfaces.{is_interface}
 pub data Configured : Type 0 where
   of_drive : Drive → Configured
   of_interface : Interface → Configured
-<<<<<<< f4895c43
+<<<<<<< 8bde38ab
   of_vsock : Vsock → Configured
   of_balloon : Balloon → Configured
 
@@ -37,7 +37,7 @@ abbrev pub balloon_devices : Option Balloon → List Configured
 balloon_devices None = []
 balloon_devices (Some b) = of_balloon b ∷ []
 
-<<<<<<< f4895c43
+<<<<<<< 8bde38ab
 abbrev pub devices_in : List Drive → List Interface → Option Vsock → Option Balloon → List Configured
 devices_in drives interfaces vsock balloon =
     map of_drive (in_order drives) ++ (map of_interface interfaces ++ (vsock_devices vsock ++ balloon_devices balloon))
@@ -64,7 +64,7 @@ abbrev pub balloon_count : Option Balloon → ℕ
 balloon_count None = 0
 balloon_count (Some b) = 1
 
-<<<<<<< f4895c43
+<<<<<<< 8bde38ab
 abbrev pub count_in : List Drive → List Interface → Option Vsock → Option Balloon → ℕ
 count_in drives interfaces vsock balloon = length drives + length interfaces + vsock_count vsock + balloon_count balloon
 
@@ -83,7 +83,7 @@ abbrev pub interface_device : Config → List ℕ → Option ℕ
 interface_device config id = option_map (λ k. length config.drives + k) (position (is_interface id) config.interfaces)
 
 abbrev pub balloon_device : Config → Option ℕ
-<<<<<<< f4895c43
+<<<<<<< 8bde38ab
 balloon_device config =
     option_map (λ b. length config.drives + length config.interfaces + vsock_count config.vsock) config.balloon
 =======

@@ -14,7 +14,7 @@ use Rattle.api_calls.specs.declared.call.Part.TheVariants as part
 use Rattle.api_calls.specs.declared.interface.Interface.{Interface}
 use Rattle.api_calls.specs.declared.limiter.BucketConfig.{BucketConfig}
 use Rattle.api_calls.specs.declared.limiter.Limiter.{Limiter}
-<<<<<<< f4895c43
+<<<<<<< 8bde38ab
 use Rattle.api_calls.specs.declared.mmds.MmdsConfig.{MmdsConfig}
 use Rattle.metadata_store.specs.declared.version.MetadataVersion.{MetadataVersion}
 use Rattle.metadata_store.specs.declared.version.MetadataVersion.TheVariants as versions
@@ -113,7 +113,7 @@ interface i = object (
 abbrev pub interfaces : List Interface → Data
 interfaces is = array (items_of (map interface is))
 
-<<<<<<< f4895c43
+<<<<<<< 8bde38ab
 abbrev pub given_vsock : Vsock → Data
 given_vsock v = object (
     member (codes "guest_cid") (number (unsigned v.guest_cid)) (member (codes "uds_path") (string v.uds_path) no_members))
@@ -135,7 +135,7 @@ abbrev pub balloon : Option Balloon → Data
 balloon None = null
 balloon (Some b) = given_balloon b
 
-<<<<<<< f4895c43
+<<<<<<< 8bde38ab
 abbrev pub version_text : MetadataVersion → List ℕ
 version_text versions.V1 = codes "V1"
 version_text versions.V2 = codes "V2"
@@ -168,7 +168,7 @@ vm_config c = object (
     (member (codes "boot-source") (boot_source c.boot_source)
     (member (codes "drives") (drives c.drives)
     (member (codes "machine-config") (machine c.machine)
-<<<<<<< f4895c43
+<<<<<<< 8bde38ab
     (member (codes "mmds-config") (mmds c.mmds)
     (member (codes "network-interfaces") (interfaces c.interfaces)
     (member (codes "vsock") (vsock c.vsock) no_members)))))))

@@ -1,7 +1,7 @@
 // What accepted calls ask for.
 use api_calls::{
     Balloon, BalloonPatch, BootSource, Drive, DrivePatch, Interface, InterfacePatch, MachineConfig,
-<<<<<<< f4895c43
+<<<<<<< 8bde38ab
     MmdsConfig, Part, SnapshotCreate, SnapshotLoad, StatisticsPatch, VmState, Vsock,
 =======
     Part, SnapshotCreate, SnapshotLoad, StatisticsPatch, VmState,
@@ -22,7 +22,7 @@ pub enum Change {
     PutInterface(Interface),
     /// What this gives is replaced of the interface of its id.
     PatchInterface(InterfacePatch),
-<<<<<<< f4895c43
+<<<<<<< 8bde38ab
     /// The vsock device is this one.
     PutVsock(Vsock),
 =======
@@ -35,7 +35,7 @@ pub enum Change {
     PatchBalloon(BalloonPatch),
     /// There are so many seconds between two reports of the balloon from now on.
     PatchStatistics(StatisticsPatch),
-<<<<<<< f4895c43
+<<<<<<< 8bde38ab
     /// The guest is given metadata in this way.
     MmdsConfig(MmdsConfig),
 =======

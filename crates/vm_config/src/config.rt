@@ -8,7 +8,7 @@ use crate::balloon::{with_amount, with_interval};
 use crate::change::Change;
 use crate::drives::Drives;
 use crate::interfaces::Interfaces;
-<<<<<<< f4895c43
+<<<<<<< 8bde38ab
 use api_calls::{Balloon, BootSource, Drive, Interface, MachineConfig, MmdsConfig, Vsock};
 =======
 use api_calls::{Balloon, BootSource, Drive, Interface, MachineConfig};
@@ -33,7 +33,7 @@ pub struct Config {
     pub boot_source: Option<BootSource>,
     pub drives: Drives,
     pub interfaces: Interfaces,
-<<<<<<< f4895c43
+<<<<<<< 8bde38ab
     pub vsock: Option<Vsock>,
     pub machine: MachineConfig,
     pub balloon: Option<Balloon>,
@@ -56,7 +56,7 @@ impl Config {
             boot_source: None,
             drives: Drives::new(alloc),
             interfaces: Interfaces::new(alloc),
-<<<<<<< f4895c43
+<<<<<<< 8bde38ab
             vsock: None,
 =======
 >>>>>>> m
@@ -66,7 +66,7 @@ impl Config {
                 track_dirty_pages: false,
             },
             balloon: None,
-<<<<<<< f4895c43
+<<<<<<< 8bde38ab
             mmds: None,
 =======
 >>>>>>> m
@@ -90,7 +90,7 @@ impl Config {
             Change::PatchDrive(patch) => self.drives.patch(patch),
             Change::PutInterface(interface) => return self.put_interface(interface),
             Change::PatchInterface(patch) => self.interfaces.patch(patch),
-<<<<<<< f4895c43
+<<<<<<< 8bde38ab
             Change::PutVsock(vsock) => {
                 self.vsock = Some(vsock);
                 self.configured = true;
@@ -107,7 +107,7 @@ impl Config {
             }
             Change::PatchBalloon(patch) => self.balloon = with_amount(patch, self.balloon),
             Change::PatchStatistics(patch) => self.balloon = with_interval(patch, self.balloon),
-<<<<<<< f4895c43
+<<<<<<< 8bde38ab
             Change::MmdsConfig(mmds) => {
                 self.mmds = Some(mmds);
                 self.configured = true;

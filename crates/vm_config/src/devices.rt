@@ -1,5 +1,5 @@
 // The devices of a machine by their numbers.
-<<<<<<< f4895c43
+<<<<<<< 8bde38ab
 ghost use Rattle.std.specs.Prelude.{◌≡◌, ◌+◌, ◌≤◌, length};
 =======
 ghost use Rattle.std.specs.Prelude.{◌≡◌};
@@ -9,7 +9,7 @@ ghost use Rattle.vm_config.specs.Devices as devices;
 ghost use Rattle.vm_config.specs.Interfaces.{is_interface};
 
 use crate::config::Config;
-<<<<<<< f4895c43
+<<<<<<< 8bde38ab
 use api_calls::{Balloon, Interface, Vsock};
 
 fn vsock_count(vsock: &Option<Vsock>) -> usize
@@ -43,7 +43,7 @@ fn place_of(interfaces: &[Interface], id: &str) -> Option<usize>
 }
 
 impl Config {
-<<<<<<< f4895c43
+<<<<<<< 8bde38ab
     /// How many devices a machine has by what is configured: one for each drive and each interface, the vsock device and the balloon.
     pub fn device_count(&self) -> u128
         ensures { result ≡ devices.device_count self.now }
@@ -73,7 +73,7 @@ impl Config {
         Some(self.drives.as_slice().len() + place)
     }
 
-<<<<<<< f4895c43
+<<<<<<< 8bde38ab
     // How many devices there are beside the balloon.
     fn others(&self) -> usize
         ensures { result ≡ length self.now.drives + length self.now.interfaces + devices.vsock_count self.now.vsock }
@@ -90,7 +90,7 @@ impl Config {
         ensures { result ≡ devices.balloon_device self.now }
     {
         match self.balloon {
-<<<<<<< f4895c43
+<<<<<<< 8bde38ab
             Some(_) => Some(self.others()),
 =======
             Some(_) => Some(self.drives.as_slice().len() + self.interfaces.as_slice().len()),

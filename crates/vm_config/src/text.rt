@@ -5,7 +5,7 @@ ghost use Rattle.vm_config.specs.Texts as texts;
 
 use crate::config::{Config, Phase};
 use crate::statistics::{Statistics, statistics_value};
-<<<<<<< f4895c43
+<<<<<<< 8bde38ab
 use crate::values::{balloon, boot_source, drives, interfaces, machine, mmds, vsock};
 =======
 use crate::values::{balloon, boot_source, drives, interfaces, machine};
@@ -101,7 +101,7 @@ fn vm_config(alloc: Global, config: &Config) -> Result<Value, AllocError>
     let source = boot_source(alloc, &config.boot_source)?;
     let drives = drives(alloc, config.drives.as_slice())?;
     let interfaces = interfaces(alloc, config.interfaces.as_slice())?;
-<<<<<<< f4895c43
+<<<<<<< 8bde38ab
     let vsock = vsock(alloc, &config.vsock)?;
     let machine = machine(alloc, &config.machine)?;
     let balloon = balloon(alloc, &config.balloon)?;
@@ -115,7 +115,7 @@ fn vm_config(alloc: Global, config: &Config) -> Result<Value, AllocError>
         "drives": drives,
         "machine-config": machine,
         "network-interfaces": interfaces,
-<<<<<<< f4895c43
+<<<<<<< 8bde38ab
         "vsock": vsock,
         "balloon": balloon,
         "mmds-config": mmds,

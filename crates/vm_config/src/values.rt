@@ -3,7 +3,7 @@ ghost use Rattle.std.specs.Prelude.{◌≡◌, IfOk};
 ghost use Rattle.serde_json.specs.View.{view};
 ghost use Rattle.vm_config.specs.Texts as texts;
 
-<<<<<<< f4895c43
+<<<<<<< 8bde38ab
 use api_calls::{
     Balloon, BootSource, BucketConfig, Drive, Interface, Limiter, MachineConfig, MmdsConfig, Vsock,
 };
@@ -154,7 +154,7 @@ pub fn interfaces(alloc: Global, interfaces: &[Interface]) -> Result<Value, Allo
     Ok(Value::Array(told))
 }
 
-<<<<<<< f4895c43
+<<<<<<< 8bde38ab
 fn given_vsock(alloc: Global, vsock: &Vsock) -> Result<Value, AllocError>
     ensures { IfOk result (λ v. view v ≡ texts.given_vsock vsock.now) }
 {
@@ -193,7 +193,7 @@ pub fn balloon(alloc: Global, balloon: &Option<Balloon>) -> Result<Value, AllocE
         None => Ok(Value::Null),
     }
 }
-<<<<<<< f4895c43
+<<<<<<< 8bde38ab
 
 /// The version as a text.
 pub fn version_text(version: MetadataVersion) -> &'static str

@@ -14,6 +14,12 @@ ghost use Rattle.vm_outside.specs.Known.{Called, Lasts, Tells};
 use vm_outside::Failed;
 use vm_types::Piece;
 
+/// How many bytes a sector has.
+pub const SECTOR: usize = 512;
+
+/// And a part of one.
+pub const PART: usize = 64;
+
 /// A call that changes a disk, or makes what was written outlive a crash.
 #[derive(Clone, Copy, Drop)]
 pub enum DiskCall {

@@ -16,7 +16,7 @@ mod vsock_host;
 
 pub use attached::Attached;
 pub use clock::Clock;
-pub use disk::{Disk, DiskCall};
+pub use disk::{Disk, DiskCall, PART, SECTOR};
 pub use host::Host;
 pub use link::Link;
 pub use vsock_host::{HostAct, HostEvent, VsockHost};

@@ -23,7 +23,7 @@ use Rattle.port_table.specs.declared.state.PortState.{PortState}
 use Rattle.guest_devices.specs.declared.change.DeviceChange.{DeviceChange}
 use Rattle.guest_devices.specs.declared.device.Device.{Device}
 use Rattle.guest_devices.specs.Devices.{DeviceLeft, FlatDevice, device_next, device_wants, left_reset}
-<<<<<<< f4895c43
+<<<<<<< 8bde38ab
 use Rattle.guest_devices.specs.Kept.{AreReset, device_want, devices_given, devices_left}
 use Rattle.guest_devices.specs.Kinds.{FitsChange}
 =======
@@ -48,7 +48,7 @@ use Rattle.flat_guest.proofs.Marked.{none_marked}
 use Rattle.flat_guest.proofs.Stepping.{HasMade, HasStopped, entry_of, has_made_more, ran, step_is, stays}
 use Rattle.vm_world.specs.declared.step_error.StepError.{StepError}
 use Rattle.vm_world.specs.Refusing.{IsRefused, refusal_of}
-<<<<<<< f4895c43
+<<<<<<< 8bde38ab
 use Rattle.vm_world.specs.Worlds.{IsSameGuest, IsWorld, IsWorldReset, MakesEvent, Runs, WorldValue, body_of, pages_of, place_in, want_in}
 =======
 use Rattle.vm_world.specs.Worlds.{IsSameGuest, IsWorld, MakesEvent, Runs, WorldValue, body_of, pages_of, place_in, want_in, world_reset}

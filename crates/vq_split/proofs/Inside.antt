@@ -1,5 +1,6 @@
 -- What the walk of a sound queue's chain touches.
 use Rattle.std.proofs.Common.{◌≡◌, ℕ, zero, suc, ◌+◌, ◌-◌, ◌*◌, ◌%◌, ◌^◌, ◌==◌, ◌<◌, ◌≤◌, ◌&&◌, not, nat_le, nat_lt, refl, Bool, true, false, if◌then◌else◌, List, [], ◌∷◌, ◌++◌, length, arith, Option, Some, None}
+use Rattle.std.proofs.lemmas.Bool.{and_parts, eqb-true}
 use Rattle.vm_types.specs.declared.op.Op.{Op}
 use Rattle.vq_split.specs.declared.queue.Queue.{Queue}
 use Rattle.vq_split.specs.declared.queue.Part.{Part}
@@ -127,29 +128,22 @@ walk_keeps q next sound = (
   λ reply fit. indexed_keep q next (field_at (read_bytes 2 reply) 0 2) sound,
 )
 
-pub both : (a b : Bool) → (a && b) ≡ true → (a ≡ true) × (b ≡ true)
-both true b on = (refl, on)
-both false b on = cc
-
-eq_of : (n m : ℕ) → (n == m) ≡ true → n ≡ m
-eq_of n m is = grind arith
-
 size_of : (n : ℕ) → is_size n ≡ true → (0 < n) × (n ≤ 256)
 size_of n is = (grind arith, grind arith)
 
 pub tables_of : (q : Queue) → are_tables q ≡ true → q.pages < 2 ^ 32 → AreTables q
 tables_of q is few =
-    let t5 = both _ _ is in
-    let t4 = both _ _ t5.0 in
-    let t3 = both _ _ t4.0 in
-    let t2 = both _ _ t3.0 in
-    let t1 = both _ _ t2.0 in
+    let t5 = and_parts _ _ is in
+    let t4 = and_parts _ _ t5.0 in
+    let t3 = and_parts _ _ t4.0 in
+    let t2 = and_parts _ _ t3.0 in
+    let t1 = and_parts _ _ t2.0 in
     record {
       pages = few;
       descriptors_in = of_ram q.pages q.descriptors (16 * q.size) t1.1;
       available_in = of_ram q.pages q.available (4 + 2 * q.size) t3.1;
       used_in = of_ram q.pages q.used (4 + 8 * q.size) t5.1;
-      aligned = (eq_of _ _ t1.0, eq_of _ _ t2.1, eq_of _ _ t4.1);
+      aligned = (eqb-true _ _ t1.0, eqb-true _ _ t2.1, eqb-true _ _ t4.1);
     }
 
 pub sound_of : (q : Queue) (size tables : Bool) → is_size q.size ≡ size → are_tables q ≡ tables → q.pages < 2 ^ 32

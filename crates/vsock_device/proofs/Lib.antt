@@ -1,4 +1,4 @@
-<<<<<<< f4895c43
+<<<<<<< 8bde38ab
 pub mod Hearing
 pub mod Lines
 pub mod Narrow
@@ -9,7 +9,7 @@ pub mod Owes
 pub mod Pieces
 pub mod Ports
 pub mod Resuming
-<<<<<<< f4895c43
+<<<<<<< 8bde38ab
 pub mod Serving
 pub mod Small
 pub mod SmallTexts

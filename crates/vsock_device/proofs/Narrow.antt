@@ -1,6 +1,5 @@
 -- What a vsock device writes are bytes where each reply was small; and a Reset leaves its data so, and what it leaves out is small.
-use Rattle.std.proofs.Common.{◌≡◌, true, subst, Some, take}
-use Rattle.std.specs.List.{All}
+use Rattle.std.proofs.Common.{◌≡◌, true, subst, Some}
 use Rattle.std.proofs.lemmas.List.Elements.{All-take}
 use Rattle.vm_types.specs.declared.op.Op.{Op}
 use Rattle.vm_types.specs.declared.op.Op.TheVariants.{Out, Read}

@@ -1,13 +1,26 @@
 -- How the bytes of a packet go to the host, piece by piece.
+<<<<<<< 8bde38ab
+use Rattle.std.proofs.Common.{◌≡◌, ℕ, zero, suc, ◌==◌, ◌<◌, ◌≤◌, refl, sym, ◌∙◌, List, arith}
+=======
 use Rattle.std.proofs.Common.{◌≡◌, ℕ, zero, suc, ◌+◌, ◌-◌, ◌%◌, ◌^◌, ◌==◌, ◌<◌, ◌≤◌, refl, sym, ◌∙◌, Bool, true, false, if◌then◌else◌, List, [], ◌∷◌, arith}
+>>>>>>> m
 use Rattle.vm_types.specs.declared.op.Op.TheVariants.{Read}
 use Rattle.vq_split.specs.declared.queue.Part.{Part}
 use Rattle.vq_split.specs.Chain.{read_bytes}
 use Rattle.dev_core.specs.Pieces.{past, place, room, total}
+<<<<<<< 8bde38ab
+use Rattle.dev_core.proofs.Totals.{room_few, total_past}
+use Rattle.dev_core.proofs.Fuel.{if_else, none_of, same_else, some_of}
+=======
+>>>>>>> m
 use Rattle.queue_device.specs.Acting.{Acts}
 use Rattle.vsock_device.specs.declared.data.Vsock.{Vsock}
 use Rattle.vsock_device.specs.Guest.{forwarding, forwarding_all, piece_read, taken_in}
 
+<<<<<<< 8bde38ab
+-- ---- how many pieces at most doesn't matter where they suffice
+
+=======
 -- ---- bytes that are left
 
 room_few : (parts : List Part) → room parts ≤ total parts
@@ -45,6 +58,7 @@ same_else : {A : Type 0} (test t : Bool) (x w v : A) → test ≡ t → (test �
 same_else test true x w v is same = rw is refl
 same_else test false x w v is same = rw is (same is)
 
+>>>>>>> m
 most_done : (most host : ℕ) (parts : List Part) (e : Vsock) → room parts ≡ 0 → forwarding most host parts e ≡ taken_in e
 most_done zero host parts e none = refl
 most_done (suc most) host parts e none = rw none refl

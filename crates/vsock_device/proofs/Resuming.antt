@@ -1,5 +1,5 @@
 -- What a vsock device owes of what is kept of it.
-<<<<<<< f4895c43
+<<<<<<< 8bde38ab
 use Rattle.std.proofs.Common.{◌≡◌, ℕ, refl, subst, inl, inr, false, arith, Bool}
 use Rattle.vm_types.specs.declared.reply.Reply.{Reply}
 use Rattle.dev_core.specs.Inside.{Any}

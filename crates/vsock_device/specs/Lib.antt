@@ -5,7 +5,7 @@ pub mod Guest
 pub mod Host
 pub mod Lines
 pub mod Packets
-<<<<<<< f4895c43
+<<<<<<< 8bde38ab
 pub mod Port
 pub mod Reset
 pub mod Sequences

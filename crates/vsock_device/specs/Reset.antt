@@ -1,5 +1,5 @@
 -- A reset of the connections, which comes from outside, in whatever state the device is.
-<<<<<<< f4895c43
+<<<<<<< 8bde38ab
 use Rattle.std.specs.Prelude.{ℕ, ◌==◌, ◌&&◌, Bool, true, not, Option, Some, None, is_some, [], length}
 =======
 use Rattle.std.specs.Prelude.{Option, Some, None, true, []}
@@ -28,7 +28,7 @@ abbrev pub answer_reset : InHand → Option Head
 answer_reset (hand.Judged refusal) = refusal
 answer_reset in_hand = None
 
-<<<<<<< f4895c43
+<<<<<<< 8bde38ab
 -- the data that have these, and no connection
 abbrev pub unconnected : ℕ → ℕ → Option Head → InHand → Bool → Vsock
 unconnected guest_cid next_port answer in_hand reset_due = record {

@@ -1,12 +1,9 @@
 -- The widths of what a vsock device keeps.
-use Rattle.std.specs.Prelude.{ℕ, ◌≡◌, ◌^◌, ◌<◌, ◌≤◌, Bool, true, Option, IfSome, List, length, false}
+use Rattle.std.specs.Prelude.{ℕ, ◌≡◌, ◌^◌, ◌<◌, ◌≤◌, Bool, true, Option, IfSome, List, length}
 use Rattle.std.specs.List.{All}
-use Rattle.device_trace.specs.Script.{Script}
 use Rattle.le_fields.specs.Fields.{IsByte}
 use Rattle.queue_device.specs.declared.phase.Work.{Work}
 use Rattle.queue_device.specs.Left.{Hand}
-use Rattle.queue_device.specs.Resuming.{HasKept}
-use Rattle.queue_device.specs.Service.{Queued}
 use Rattle.vsock_packet.specs.Header.{Fits}
 use Rattle.vsock_device.specs.declared.connection.Connection.{Connection}
 use Rattle.vsock_device.specs.declared.data.InHand.{InHand}
@@ -17,7 +14,6 @@ use Rattle.vsock_device.specs.declared.kind.Stage.TheVariants as stage
 use Rattle.vsock_device.specs.declared.packet.Head.{Head}
 use Rattle.vsock_device.specs.declared.packet.HostBytes.{HostBytes}
 use Rattle.vsock_device.specs.declared.packet.Packet.{Packet}
-use Rattle.vsock_device.specs.Vsock.{vsock}
 use Rattle.vsock_device.specs.Work.{hand_of, is_work}
 
 -- at most 64 bytes
@@ -91,7 +87,3 @@ sized_hand sized g = hand_of g.stage
 
 abbrev pub is_sized_work : (sized : Bool) → Work → ℕ → SizedStage sized → Bool
 is_sized_work sized w pages g = is_work w pages g.stage
-
--- what is kept where this is left, each number of which has its width where each reply was small
-abbrev pub VsockNarrow : ℕ → ℕ → Script (Queued Vsock) → Type 0
-VsockNarrow port pages t = HasKept vsock (sized_hand true) (is_sized_work true) (IsSizedData true) true false port pages t

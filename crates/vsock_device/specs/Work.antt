@@ -9,7 +9,7 @@ use Rattle.device_trace.specs.Script.{Script}
 use Rattle.vq_split.specs.declared.queue.Part.{Part}
 use Rattle.vq_split.specs.Chain.{read_bytes}
 use Rattle.vq_split.specs.Kept.{are_inside}
-<<<<<<< f4895c43
+<<<<<<< 8bde38ab
 use Rattle.dev_core.specs.declared.collect.Collect.{Collect}
 =======
 >>>>>>> m
@@ -82,7 +82,7 @@ are_parts pages parts = are_inside pages parts && nat_le (length parts) 256
 abbrev pub is_spilling : ℕ → Spill → Bool
 is_spilling pages spill = has_left pages (share spill.held spill.to) spill.to
 
-<<<<<<< f4895c43
+<<<<<<< 8bde38ab
 -- fewer bytes than a header has came, and there are more
 abbrev pub is_fetching : Collect → Bool
 is_fetching from = nat_lt (length from.held) 44 && nat_lt 0 (room from.from)

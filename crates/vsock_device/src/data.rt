@@ -5,7 +5,7 @@ ghost use Rattle.vsock_device.specs.Data.{answered, bytes_of_one, connected, del
 ghost use Rattle.vsock_device.specs.Data.{bytes_waiting, held_sent, held_without, waiting, with_connection};
 ghost use Rattle.vsock_device.specs.Guest.{failed, is_addressed, is_orphaned, one_forwarded, one_open};
 ghost use Rattle.vsock_device.specs.Connections.{connection_at};
-<<<<<<< f4895c43
+<<<<<<< 8bde38ab
 ghost use Rattle.vsock_device.specs.Reset.{answer_reset, cut_by, hand_reset, is_unconnected, reset, unconnected};
 =======
 ghost use Rattle.vsock_device.specs.Reset.{answer_reset, cut_by, hand_reset, reset};
@@ -138,7 +138,7 @@ impl Vsock {
         }
     }
 
-<<<<<<< f4895c43
+<<<<<<< 8bde38ab
     /// The data that have these, and no connection.
     pub fn unconnected(
         guest_cid: u64,

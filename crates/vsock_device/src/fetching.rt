@@ -1,5 +1,5 @@
 // Reading a packet's header.
-<<<<<<< f4895c43
+<<<<<<< 8bde38ab
 ghost use Rattle.std.specs.Prelude.{◌≡◌, ◌<◌, ◌≤◌, if◌then◌else◌, length, true, Some, None};
 =======
 ghost use Rattle.std.specs.Prelude.{◌≡◌, ◌<◌, ◌≤◌, length, true};
@@ -9,7 +9,7 @@ ghost use Rattle.vm_types.specs.Fits.{fits};
 ghost use Rattle.device_trace.specs.Doing.{led};
 ghost use Rattle.dev_core.specs.Collecting.{collect_left};
 ghost use Rattle.dev_core.specs.Pieces.{past, place, room};
-<<<<<<< f4895c43
+<<<<<<< 8bde38ab
 ghost use Rattle.vsock_device.specs.Work.{is_fetching};
 =======
 >>>>>>> m
@@ -47,7 +47,7 @@ impl Fetching {
         Fetching { inner: from }
     }
 
-<<<<<<< f4895c43
+<<<<<<< 8bde38ab
     /// These bytes came, where they are fewer than a header has and there are more.
     pub fn from_parts(from: Collect) -> Option<Fetching>
         ensures { result ≡ (if is_fetching from then Some from else None) }

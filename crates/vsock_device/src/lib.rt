@@ -1,4 +1,4 @@
-<<<<<<< f4895c43
+<<<<<<< 8bde38ab
 //! A vsock device (VIRTIO 1.2, 5.10) as a kind of device on the rounds of `queue_device`.
 //!
 //! `Vsock` is what it keeps: at most 64 connections with their credit, what waits for the guest, and the chain in hand as far as
@@ -17,7 +17,7 @@ mod calls;
 mod connection;
 mod connections;
 mod data;
-<<<<<<< f4895c43
+<<<<<<< 8bde38ab
 mod device;
 =======
 >>>>>>> m
@@ -28,7 +28,7 @@ mod kind;
 mod law;
 mod leading;
 mod line;
-<<<<<<< f4895c43
+<<<<<<< 8bde38ab
 mod new_vsock;
 =======
 >>>>>>> m
@@ -37,7 +37,7 @@ mod packet;
 pub use connection::{Connection, Standing};
 pub use connections::Connections;
 pub use data::{InHand, Vsock, VsockChange};
-<<<<<<< f4895c43
+<<<<<<< 8bde38ab
 pub use device::VsockDevice;
 pub use fetching::Fetching;
 pub use kind::{Stage, VsockKind};

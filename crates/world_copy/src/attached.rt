@@ -30,7 +30,7 @@ pub fn ports_kept(alloc: Global, ports: &[Port]) -> Result<Items<Counted<Saved<P
 }
 
 // The copy is reset, and the device isn't.
-<<<<<<< f4895c43
+<<<<<<< 8bde38ab
 fn device_kept(device: &Device) -> Listed<SavedDevice>
     ensures { IsReset device.now result }
 =======
@@ -42,7 +42,7 @@ fn device_kept(device: &Device) -> Listed<Saved<Device>>
     let mut kept = device.again();
     kept.reset();
     Listed {
-<<<<<<< f4895c43
+<<<<<<< 8bde38ab
         value: SavedDevice::new(kept),
 =======
         value: Saved { value: kept },
@@ -54,7 +54,7 @@ fn device_kept(device: &Device) -> Listed<Saved<Device>>
 pub fn devices_kept(
     alloc: Global,
     devices: &[Device],
-<<<<<<< f4895c43
+<<<<<<< 8bde38ab
 ) -> Result<Items<Listed<SavedDevice>>, AllocError>
     ensures { IfOk result (λ kept. AreReset devices.now kept) }
 =======
@@ -84,7 +84,7 @@ pub fn ports_of(alloc: Global, kept: Vec<Counted<Saved<Port>>>) -> Result<Vec<Po
 }
 
 /// The devices that a copy had.
-<<<<<<< f4895c43
+<<<<<<< 8bde38ab
 pub fn devices_of(alloc: Global, kept: Vec<Listed<SavedDevice>>) -> Result<Vec<Device>, AllocError>
 =======
 pub fn devices_of(
@@ -98,7 +98,7 @@ pub fn devices_of(
     let mut rest = kept.into_iter();
     while let Some(device) = rest.next() {
         let saved = device.value;
-<<<<<<< f4895c43
+<<<<<<< 8bde38ab
         devices.push(saved.into_device())?;
 =======
         devices.push(saved.value)?;

@@ -4,7 +4,7 @@ ghost use Rattle.std.specs.Option.{option_map};
 ghost use Rattle.flat_snapshot.specs.Carried.{carried_config};
 ghost use Rattle.flat_snapshot.specs.Copies.{source_of};
 
-<<<<<<< f4895c43
+<<<<<<< 8bde38ab
 use api_calls::{BootSource, MachineConfig, MmdsConfig, Vsock};
 use snap_state::{Configuration, Filed, SavedList, taken};
 =======
@@ -97,7 +97,7 @@ pub(crate) fn configuration_of(alloc: Global, config: &Config) -> Result<Configu
           boot_source = source_of config.now.boot_source;
           drives = config.now.drives;
           interfaces = config.now.interfaces;
-<<<<<<< f4895c43
+<<<<<<< 8bde38ab
           vsock = config.now.vsock;
           machine = config.now.machine;
           balloon = config.now.balloon;
@@ -111,7 +111,7 @@ pub(crate) fn configuration_of(alloc: Global, config: &Config) -> Result<Configu
     let boot_source = source_of(alloc, &config.boot_source)?;
     let drives = list_of(alloc, &config.drives)?;
     let interfaces = list_of(alloc, &config.interfaces)?;
-<<<<<<< f4895c43
+<<<<<<< 8bde38ab
     let vsock = vsock_of(alloc, &config.vsock)?;
     let mmds = mmds_of(alloc, &config.mmds)?;
 =======
@@ -120,7 +120,7 @@ pub(crate) fn configuration_of(alloc: Global, config: &Config) -> Result<Configu
         boot_source,
         drives,
         interfaces,
-<<<<<<< f4895c43
+<<<<<<< 8bde38ab
         vsock,
         machine: config.machine,
         balloon: config.balloon,
@@ -144,7 +144,7 @@ pub fn config_of(configuration: Configuration, track_dirty_pages: bool) -> Confi
         }),
         drives: Drives::from_vec(configuration.drives.items),
         interfaces: Interfaces::from_vec(configuration.interfaces.items),
-<<<<<<< f4895c43
+<<<<<<< 8bde38ab
         vsock: taken(configuration.vsock),
 =======
 >>>>>>> m
@@ -154,7 +154,7 @@ pub fn config_of(configuration: Configuration, track_dirty_pages: bool) -> Confi
             track_dirty_pages,
         },
         balloon: configuration.balloon,
-<<<<<<< f4895c43
+<<<<<<< 8bde38ab
         mmds: taken(configuration.mmds),
 =======
 >>>>>>> m

@@ -4,9 +4,8 @@ ghost use Rattle.board_table.specs.Calls.{put_byte, reset_by};
 
 use crate::Board;
 use crate::board::harts::refused;
+use board_table::RING_SIZE;
 use vm_types::Reply;
-
-const RING_SIZE: usize = 4096;
 
 /// SBI_ERR_INVALID_PARAM, -3 (SBI, "Binary Encoding").
 pub const INVALID_PARAMETER: u64 = 0xffff_ffff_ffff_fffd;

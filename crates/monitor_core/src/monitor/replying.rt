@@ -8,7 +8,7 @@ ghost use Rattle.http_stream.specs.Sent.{sent};
 use crate::monitor::Monitor;
 use http_front::write_request;
 use http_stream::Next;
-use response_form::ResponseForm;
+use responses::ResponseForm;
 use std::alloc::AllocError;
 use vm_outside::Files;
 use vm_types::ByteList;

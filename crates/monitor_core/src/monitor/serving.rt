@@ -8,7 +8,7 @@ ghost use Rattle.monitor_machine.specs.Disks.{DiskUncalled, HasFiles};
 
 use crate::monitor::Monitor;
 use monitor_machine::LiveMachine;
-use response_form::ResponseForm;
+use responses::ResponseForm;
 use std::alloc::AllocError;
 use vm_host::Disk;
 use vm_outside::Files;

@@ -6,7 +6,7 @@ ghost use Rattle.http_stream.specs.declared.request.Next.{Next};
 ghost use Rattle.http_stream.specs.declared.request.Request.{Request};
 ghost use Rattle.guest_devices.specs.declared.device.Device.{Device};
 ghost use Rattle.flat_machine.specs.Machine.{Machine};
-ghost use Rattle.response_form.specs.Responses.{written_as};
+ghost use Rattle.responses.specs.Responses.{written_as};
 ghost use Rattle.vm_outside.specs.Filing.{SameFiles};
 ghost use Rattle.vm_outside.specs.Known.{Lasts, Tells};
 
@@ -15,7 +15,7 @@ use crate::outcome::Outcome;
 use api_rules::done_answer;
 use create_end::end_create;
 use monitor_plans::{Creation, Plan, pages_of};
-use response_form::{ResponseForm, write_response};
+use responses::{ResponseForm, write_response};
 use snap_writer::create;
 use std::alloc::AllocError;
 use vm_outside::{Failed, Files};

@@ -6,13 +6,13 @@ ghost use Rattle.flat_machine.specs.Given.{reply_given};
 ghost use Rattle.flat_machine.specs.Machine.{Machine, console_of, drained, running};
 ghost use Rattle.flat_machine.specs.Items.{StepsLine, RepliesLine, RegisterLine, MemoryLine};
 ghost use Rattle.hart_trace.specs.Shown.{register_of};
-ghost use Rattle.script_output.specs.Output.{console_line};
+ghost use Rattle.responses.specs.Output.{console_line};
 
 use crate::answering::{reply_given, take_reply};
 use crate::machine::LiveMachine;
 use crate::waiting::{steps_line, waits_room};
 use gate_file::zeros;
-use script_output::console_line;
+use responses::console_line;
 use script_text::{HostReply, Misfit, memory_line, misfit_line, register_line};
 use std::alloc::{AllocError, Global};
 use vm_types::{ActorId, ByteList, GuestAddr};

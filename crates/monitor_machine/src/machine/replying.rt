@@ -7,7 +7,7 @@ ghost use Rattle.vm_outside.specs.Filing.{SameFiles};
 ghost use Rattle.vm_outside.specs.Known.{FilesKnown, Lasts, Tells};
 ghost use Rattle.http_stream.specs.declared.request.Next.{Next};
 ghost use Rattle.http_stream.specs.declared.request.Request.{Request};
-ghost use Rattle.response_form.specs.Responses.{written_as};
+ghost use Rattle.responses.specs.Responses.{written_as};
 ghost use Rattle.monitor_machine.specs.Plans.{halted_world, paused_by, world_by};
 
 use crate::machine::LiveMachine;
@@ -18,7 +18,7 @@ use http_stream::Request;
 use metadata_store::Store;
 use monitor_plans::{Plan, Restored, Task};
 use refusals::Refusal;
-use response_form::{ResponseForm, write_response};
+use responses::{ResponseForm, write_response};
 use std::alloc::AllocError;
 use vm_config::{Drives, Interfaces};
 use vm_outside::Files;
@@ -132,7 +132,7 @@ impl LiveMachine {
     }
 
     fn take_drives(&mut self, drives: Drives)
-<<<<<<< f4895c43
+<<<<<<< 8bde38ab
         requires fit { AreFitting drives self.old.config.interfaces self.old.config.vsock self.old.config.balloon }
 =======
         requires fit { AreFitting drives self.old.config.interfaces self.old.config.balloon }
@@ -144,7 +144,7 @@ impl LiveMachine {
     }
 
     fn take_interfaces(&mut self, interfaces: Interfaces)
-<<<<<<< f4895c43
+<<<<<<< 8bde38ab
         requires fit { AreLinked self.old.config.drives interfaces self.old.config.vsock self.old.config.balloon self.old.config.mmds }
 =======
         requires fit { AreLinked self.old.config.drives interfaces self.old.config.balloon }

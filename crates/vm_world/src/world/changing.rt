@@ -1,5 +1,5 @@
 // What the API changes of a world, and the Reset that comes before a create.
-<<<<<<< f4895c43
+<<<<<<< 8bde38ab
 ghost use Rattle.std.specs.Prelude.{◌≡◌, ◌≤◌, length, slice_get};
 ghost use Rattle.guest_devices.specs.Kept.{AreReset, devices_left};
 =======

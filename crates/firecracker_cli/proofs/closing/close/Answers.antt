@@ -1,5 +1,5 @@
 use Rattle.std.proofs.Common.{inl, inr, refl, ◌∙◌}
-use Rattle.firecracker_cli.proofs.Rising.{lasts_same}
+use Rattle.vm_outside.proofs.Passing.{lasts_same}
 use Rattle.monitor_running.specs.Reached.{known}
 use Rattle.monitor_serving.specs.Views.{Hosts, hosts}
 use Rattle.firecracker_cli.specs.Closing.{last_shown}

@@ -1,6 +1,6 @@
 use Rattle.std.proofs.Common.{◌∙◌, Bool, [], ◌++◌, append-nil, ap, sym, subst, if◌then◌else◌}
 use Rattle.vm_outside.specs.Passing.{TakesAll}
-use Rattle.script_output.specs.Output.{off_line}
+use Rattle.responses.specs.Output.{off_line}
 use Rattle.firecracker_cli.proofs.closing.write_off.Goals as goal
 
 pub returns-then-is_off-clause-takes : goal.returns-then-is_off-clause-takes

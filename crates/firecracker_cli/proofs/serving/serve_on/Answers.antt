@@ -1,5 +1,6 @@
 use Rattle.std.proofs.Common.{inr, refl, sym, ◌∙◌, subst, arith}
 use Rattle.vm_types.specs.declared.exit.Exit.{Exit}
+use Rattle.vm_outside.proofs.Passing.{lasts_more, lasts_same}
 use Rattle.command_line.specs.Commands.{ServeWords}
 use Rattle.command_line.specs.Said.{words_said}
 use Rattle.monitor_running.specs.Asked.{host_known}
@@ -10,7 +11,6 @@ use Rattle.firecracker_cli.specs.Serving.{ServeKnown, ServersLast, serve_known_o
 use Rattle.firecracker_cli.specs.SoFar.{AtPaths, LeftBy}
 use Rattle.firecracker_cli.proofs.Beginnings.{begun, cut_by, drawn_from, left_by, none_behind, nothing_served, same_path}
 use Rattle.firecracker_cli.proofs.Causes.{at_rest, close_told, draw_told, open_told}
-use Rattle.firecracker_cli.proofs.Rising.{lasts_more, lasts_same}
 use Rattle.firecracker_cli.proofs.serving.serve_on.Goals as goal
 
 pub returns-in-Err-clause-so_far : goal.returns-in-Err-clause-so_far

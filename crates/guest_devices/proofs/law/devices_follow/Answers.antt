@@ -1,5 +1,5 @@
 use Rattle.guest_devices.proofs.Follows.{at_start, continues_wanted, did_leads, left_wants, one_left, reset_leads, told_leads, wants_continues, wants_left, wants_only}
-<<<<<<< f4895c43
+<<<<<<< 8bde38ab
 =======
 use Rattle.guest_devices.proofs.Owed.{reset_kept, reset_left}
 >>>>>>> m

@@ -1,5 +1,5 @@
 use Rattle.guest_devices.proofs.Soundness.{at_sound, copied, did_sound, new_sound, reset_sound, resumed_sound, some_want, told_sound, want_host, want_inside, want_own}
-<<<<<<< f4895c43
+<<<<<<< 8bde38ab
 use Rattle.guest_devices.proofs.Saved.{flat_saved}
 =======
 >>>>>>> m

@@ -1,4 +1,4 @@
-<<<<<<< f4895c43
+<<<<<<< 8bde38ab
 =======
 use Rattle.std.proofs.Common.{rules}
 >>>>>>> m
@@ -10,7 +10,7 @@ returns-in-Block-clause-fits c = c.block_port.ensures.fits c.args.what.now c.in-
 pub returns-in-Net-clause-fits : goal.returns-in-Net-clause-fits
 returns-in-Net-clause-fits c = c.net_port.ensures.fits c.args.what.now c.in-Net.is
 
-<<<<<<< f4895c43
+<<<<<<< 8bde38ab
 pub returns-in-Vsock-clause-fits : goal.returns-in-Vsock-clause-fits
 returns-in-Vsock-clause-fits c = c.vsock_port.ensures.fits c.args.what.now c.in-Vsock.is
 

@@ -1,5 +1,6 @@
 use Rattle.std.proofs.Common.{arith}
-use Rattle.load_run.proofs.Merges.{lasts_on, merged_more}
+use Rattle.vm_outside.proofs.Passing.{lasts_more}
+use Rattle.load_run.proofs.Merges.{merged_more}
 use Rattle.load_run.proofs.merging.merge_rounds.Goals as goal
 
 pub loop-before-preserved : goal.loop-before-preserved
@@ -8,5 +9,5 @@ loop-before-preserved g c =
     record {
       within = omega (arith, c.loop-before-test.true);
       merged = λ told. merged_more c.loop-before.before _ _ _ (was.merged told) (c.in_ok-merge_round.ensures.merged (was.lasts.still told));
-      lasts = lasts_on _ _ _ was.lasts c.in_ok-merge_round.ensures.lasts;
+      lasts = lasts_more _ _ _ was.lasts c.in_ok-merge_round.ensures.lasts;
     }

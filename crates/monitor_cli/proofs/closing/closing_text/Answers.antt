@@ -1,5 +1,5 @@
 use Rattle.std.proofs.Common.{sym, ap, ◌∙◌}
-use Rattle.script_output.specs.Output.{console_line}
+use Rattle.responses.specs.Output.{console_line}
 use Rattle.monitor_cli.proofs.EndTexts.{closes_off, closes_on}
 use Rattle.monitor_cli.proofs.closing.closing_text.Goals as goal
 

@@ -1,7 +1,8 @@
 use Rattle.std.proofs.Common.{refl}
+use Rattle.vm_outside.proofs.Passing.{lasts_more}
 use Rattle.monitor_cli.proofs.Arriving.{begun}
 use Rattle.monitor_cli.proofs.Commanding.{closing_not_usage, not_usage, nothing_begun}
-use Rattle.monitor_cli.proofs.Counts.{closing_files, closing_named, closing_sink, closing_source, lasts_more, runs_named}
+use Rattle.monitor_cli.proofs.Counts.{closing_files, closing_named, closing_sink, closing_source, runs_named}
 use Rattle.monitor_cli.proofs.Finishing.{closes}
 use Rattle.monitor_cli.proofs.replaying.replay.Goals as goal
 

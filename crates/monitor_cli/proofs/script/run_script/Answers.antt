@@ -2,12 +2,12 @@ use Rattle.std.proofs.Common.{arith, refl, ap, sym, ◌+◌, subst, ◌∙◌, �
 use Rattle.std.proofs.lemmas.List.{length-take, take-append-le}
 use Rattle.vm_types.specs.declared.exit.Exit.{Exit}
 use Rattle.vm_types.specs.declared.exit.Object.TheVariants as object
+use Rattle.vm_outside.proofs.Passing.{lasts_more}
 use Rattle.script_text.specs.Lines.{judged}
 use Rattle.flat_machine.specs.Replay.{longest_script}
 use Rattle.monitor_cli.specs.Lines.{BeforeLast, Reached}
 use Rattle.monitor_cli.proofs.Arriving.{fed}
 use Rattle.monitor_cli.proofs.Commanding.{past_early, past_end}
-use Rattle.monitor_cli.proofs.Counts.{lasts_more}
 use Rattle.monitor_cli.proofs.Halting.{no_memory, past, source_failed}
 use Rattle.monitor_cli.proofs.script.run_script.Goals as goal
 

@@ -1,5 +1,5 @@
 use Rattle.monitor_cli.proofs.Commanding.{line_alone}
-use Rattle.monitor_cli.proofs.Counts.{lasts_same}
+use Rattle.vm_outside.proofs.Passing.{lasts_same}
 use Rattle.monitor_cli.proofs.top.refuse.Goals as goal
 
 pub returns-clause-unbegun : goal.returns-clause-unbegun

@@ -3,7 +3,7 @@ use Rattle.monitor_plans.proofs.creating.body_of.Goals as goal
 
 pub returns-clause-body : goal.returns-clause-body
 returns-clause-body c =
-<<<<<<< f4895c43
+<<<<<<< 8bde38ab
     body_is c.args.identity c.args.copy.now c.in_ok-body.body.items c.from_vec.result c.in_ok-body.ensures.encodes c.in_ok-body.ensures.version
     c.from_vec.ensures
 

@@ -13,7 +13,7 @@ pub returns-in-Ok-with_others-clause-devices : goal.returns-in-Ok-with_others-cl
 returns-in-Ok-with_others-clause-devices g c = λ told.
     let config = c.args.config.now in
     let saved = (g.F.Files.known c.args.files.now).saved in
-<<<<<<< f4895c43
+<<<<<<< 8bde38ab
     c.in-Ok-with_others.ensures.drives ∙ ap (λ (l : List NewDevice). with_others l config.interfaces config.vsock config.balloon) (c.in-Ok.ensures.drives told)
     ∙ made_of (in_order config.drives) config.interfaces config.vsock config.balloon saved
 =======
@@ -26,7 +26,7 @@ returns-in-Ok-with_others-clause-there g c = λ told. c.in-Ok-with_others.ensure
 
 pub returns-in-Ok-with_others-clause-many : goal.returns-in-Ok-with_others-clause-many
 returns-in-Ok-with_others-clause-many g c =
-<<<<<<< f4895c43
+<<<<<<< 8bde38ab
     rw c.in-Ok-with_others.ensures.drives (many_with c.in-Ok.found.drives.items c.args.config.now.interfaces c.args.config.now.vsock c.args.config.now.balloon _ c.in-Ok.ensures.many)
 =======
     rw c.in-Ok-with_others.ensures.drives (many_with c.in-Ok.found.drives.items c.args.config.now.interfaces c.args.config.now.balloon _ c.in-Ok.ensures.many)
@@ -36,7 +36,7 @@ pub returns-in-Ok-with_others-clause-kinds : goal.returns-in-Ok-with_others-clau
 returns-in-Ok-with_others-clause-kinds g c =
     let config = c.args.config.now in
     rw c.in-Ok-with_others.ensures.drives
-<<<<<<< f4895c43
+<<<<<<< 8bde38ab
     (kinds_with c.in-Ok.found.drives.items config.drives config.interfaces config.vsock config.balloon c.in-Ok.ensures.many c.in-Ok.ensures.fit)
 
 pub returns-in-Ok-with_others-clause-fit : goal.returns-in-Ok-with_others-clause-fit

@@ -11,7 +11,7 @@ use Rattle.snap_writer.proofs.ByKind.{are_chosen}
 use Rattle.monitor_plans.proofs.Headings.{are_pages, as_many_in, diff_head_is, few_numbers, few_of, is_diff, kinds_there, memory_whole, numbers_are, numbers_rise, saved_are, table_is}
 use Rattle.monitor_plans.proofs.heading.diff_heading.Goals as goal
 
-<<<<<<< f4895c43
+<<<<<<< 8bde38ab
 pub runs_in-requires-clause-there : goal.runs_in-requires-clause-there
 runs_in-requires-clause-there c =
     let marked : c.in-Ok.numbers.items ≡ marked_from 0 (marks_of c.pages-memory.result.now.pages) = c.in-Ok.ensures in
@@ -78,7 +78,7 @@ returns c =
     record {
       there = ap (λ (l : List ℕ). are_there l (length w.pages)) some_is ∙ are_chosen (length w.pages) ns (kinds_in memory ns) (are_pages w.pages ns marked);
       head_is = λ g is.
-<<<<<<< f4895c43
+<<<<<<< 8bde38ab
           diff_head_is c.args.parent c.args.identity c.args.pages _ _ ns c.in-Ok-encode_behind_gate.start.items c.from_vec.result
           (kinds_in memory ns) c.as_slice-table.result.now g (numbers_are w g c.args.pages ns is long marked) (kinds_there w g memory ns is here) runs_is refl
           (c.len-filled.ensures ∙ ap (λ (l : List ℕ). length l) some_is ∙ sym (stored_chosen ns (kinds_in memory ns) (as_many_in memory ns)) ∙ ap stored_in (sym runs_is))

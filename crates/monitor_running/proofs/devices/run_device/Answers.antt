@@ -1,5 +1,5 @@
 use Rattle.std.proofs.Common.{arith}
-use Rattle.monitor_running.proofs.Disks.{lasts_more}
+use Rattle.vm_outside.proofs.Passing.{lasts_more}
 use Rattle.monitor_running.proofs.devices.run_device.Goals as goal
 
 pub returns-then-not-step_device-clause-acted : goal.returns-then-not-step_device-clause-acted

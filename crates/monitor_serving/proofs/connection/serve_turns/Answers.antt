@@ -1,7 +1,12 @@
 use Rattle.std.proofs.Common.{refl}
+use Rattle.vm_outside.proofs.Passing.{lasts_more, lasts_same}
 use Rattle.monitor_running.specs.Objects.{known_with}
 use Rattle.monitor_serving.specs.Views.{Hosts, hosts, view}
+<<<<<<< 8bde38ab
+use Rattle.monitor_serving.proofs.Turns.{all_last_on, all_last_self, goes_on, open_goes, served_on}
+=======
 use Rattle.monitor_serving.proofs.Turns.{all_last_on, all_last_self, goes_on, lasts_on, lasts_self, open_goes, served_on}
+>>>>>>> m
 use Rattle.monitor_serving.proofs.Waiting.{stays_on}
 use Rattle.monitor_serving.proofs.connection.serve_turns.Goals as goal
 
@@ -16,7 +21,7 @@ loop-init g c =
       on = λ tell tells. stays_on c.args.monitor.now before (N.known c.args.conn.now) (N.known c.args.conn.now)
           (record { gave = refl; left = refl }) refl;
       last = all_last_self before;
-      conn = lasts_self (N.known c.args.conn.now).health;
+      conn = lasts_same (N.known c.args.conn.now).health;
       gated = c.requires;
     }
 
@@ -46,7 +51,7 @@ loop-preserved g c =
           })
           (c.loop.invariant.conn.still tells)));
       last = all_last_on start before after c.loop.invariant.last turn.ensures.lasts;
-      conn = lasts_on (N.known c.args.conn.now).health (N.known c.loop.conn).health (N.known turn.new.conn).health
+      conn = lasts_more (N.known c.args.conn.now).health (N.known c.loop.conn).health (N.known turn.new.conn).health
           c.loop.invariant.conn turn.ensures.conn_lasts;
       gated = turn.ensures.gated.is;
     }

@@ -1,9 +1,10 @@
 use Rattle.std.proofs.Common.{refl, Some}
+use Rattle.vm_outside.proofs.Passing.{lasts_more, lasts_same}
 use Rattle.monitor_running.specs.Objects.{known_with}
 use Rattle.monitor_serving.specs.Connections.{place}
 use Rattle.monitor_serving.specs.Views.{Hosts, hosts}
 use Rattle.monitor_serving.proofs.Alone.{goes_on}
-use Rattle.monitor_serving.proofs.Turns.{all_last_on, all_last_self, lasts_on, lasts_self, listener_on}
+use Rattle.monitor_serving.proofs.Turns.{all_last_on, all_last_self, listener_on}
 use Rattle.monitor_serving.proofs.serving.serve_all.Goals as goal
 
 pub loop-init : goal.loop-init
@@ -13,7 +14,7 @@ loop-init g c = record {
   on = λ tell tells s first old. old;
   last = all_last_self (hosts (known_with (g.W.TurnObjects.known c.args.with.now) (g.K.Sink.known c.args.sink.now))
       (g.F.Files.known c.args.files.now));
-  listener = lasts_self (g.M.Listener.known c.args.listener.now).health;
+  listener = lasts_same (g.M.Listener.known c.args.listener.now).health;
   stays = λ tells. refl;
   gated = c.requires;
 }
@@ -40,7 +41,7 @@ loop-preserved g c =
           })
           (c.loop.invariant.listener.still tells) s first (c.loop.invariant.on tell tells s first old);
       last = all_last_on start before after c.loop.invariant.last next.ensures.lasts;
-      listener = lasts_on (M.known c.args.listener.now).health (M.known c.loop.listener).health (M.known next.new.listener).health
+      listener = lasts_more (M.known c.args.listener.now).health (M.known c.loop.listener).health (M.known next.new.listener).health
           c.loop.invariant.listener next.ensures.listener_lasts;
       stays = listener_on (M.known c.args.listener.now) (M.known c.loop.listener) (M.known next.new.listener) c.loop.invariant.listener
           c.loop.invariant.stays next.ensures.listener_stays;

@@ -1,5 +1,5 @@
 -- The byte of its kind is put at the end, and what is kept of it.
-<<<<<<< f4895c43
+<<<<<<< 8bde38ab
 use Rattle.std.proofs.Common.{◌≡◌, subst, true}
 use Rattle.guest_devices.specs.declared.device.Device.{Device}
 use Rattle.guest_devices.specs.Kept.{is_saved}
@@ -46,7 +46,7 @@ returns-in_ok-write_balloon-in-Balloon-clause-bytes c =
     (balloon_device c.args.it.now c.in-Balloon.balloon c.args.out.now.items c.write-in-Balloon.new.out.items
     c.write_balloon.new.out.items c.in-Balloon.is c.in_ok-write_balloon-in-Balloon.ensures.fits
     c.in_ok-write-in-Balloon.ensures.bytes c.in_ok-write_balloon-in-Balloon.ensures.bytes).bytes
-<<<<<<< f4895c43
+<<<<<<< 8bde38ab
 
 pub returns-in_ok-write_vsock-in-Vsock-clause-fits : goal.returns-in_ok-write_vsock-in-Vsock-clause-fits
 returns-in_ok-write_vsock-in-Vsock-clause-fits c =

@@ -1,5 +1,5 @@
 use Rattle.std.proofs.Common.{sym, arith, ◌∙◌}
-<<<<<<< f4895c43
+<<<<<<< 8bde38ab
 use Rattle.snap_state.proofs.HasDevices.{balloon_due, drive_due, interface_due, none_due, vsock_due}
 =======
 use Rattle.snap_state.proofs.HasDevices.{balloon_due, drive_due, interface_due, none_due}
@@ -9,7 +9,7 @@ use Rattle.snap_state.proofs.kinds.kind_due.Goals as goal
 pub returns-then-number-drives : goal.returns-then-number-drives
 returns-then-number-drives c =
     let own = c.args.configuration.now in
-<<<<<<< f4895c43
+<<<<<<< 8bde38ab
     sym (drive_due own.drives own.interfaces own.vsock own.balloon c.args.number
 =======
     sym (drive_due own.drives own.interfaces own.balloon c.args.number
@@ -19,7 +19,7 @@ returns-then-number-drives c =
 pub returns-then-behind-interfaces : goal.returns-then-behind-interfaces
 returns-then-behind-interfaces c =
     let own = c.args.configuration.now in
-<<<<<<< f4895c43
+<<<<<<< 8bde38ab
     sym (interface_due own.drives own.interfaces own.vsock own.balloon c.args.number
 =======
     sym (interface_due own.drives own.interfaces own.balloon c.args.number
@@ -33,7 +33,7 @@ returns-then-behind-interfaces c =
       c.count-interfaces.ensures,
     )))
 
-<<<<<<< f4895c43
+<<<<<<< 8bde38ab
 pub returns-then-last-sockets : goal.returns-then-last-sockets
 returns-then-last-sockets c =
     let own = c.args.configuration.now in
@@ -87,7 +87,7 @@ returns-then-behind-interfaces-2 c =
 pub returns : goal.returns
 returns c =
     let own = c.args.configuration.now in
-<<<<<<< f4895c43
+<<<<<<< 8bde38ab
     sym (none_due own.drives own.interfaces own.vsock own.balloon c.args.number
 =======
     sym (none_due own.drives own.interfaces own.balloon c.args.number
@@ -96,7 +96,7 @@ returns c =
       arith,
       c.if-number-drives.false,
       c.if-behind-interfaces.false,
-<<<<<<< f4895c43
+<<<<<<< 8bde38ab
       c.if-last-sockets.false,
       c.if-last-sockets-2.false,
       c.count-drives.ensures,

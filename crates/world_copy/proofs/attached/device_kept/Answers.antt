@@ -1,4 +1,4 @@
-<<<<<<< f4895c43
+<<<<<<< 8bde38ab
 -- The device that keeps the same is reset.
 use Rattle.std.proofs.Common.{subst}
 use Rattle.guest_devices.specs.declared.device.Device.{Device}

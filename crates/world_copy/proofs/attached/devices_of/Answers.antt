@@ -10,7 +10,7 @@ loop-device-init c =
 
 pub loop-device-preserved : goal.loop-device-preserved
 loop-device-preserved c =
-<<<<<<< f4895c43
+<<<<<<< 8bde38ab
     let same : c.in-Some.device ≡ c.into_device.result =
     let outer = c.device.view_is in
     let inner = c.into_device.ensures in cc in

@@ -1,4 +1,4 @@
-<<<<<<< f4895c43
+<<<<<<< 8bde38ab
 =======
 use Rattle.std.proofs.Common.{rules}
 >>>>>>> m
@@ -10,7 +10,7 @@ returns-in-Block-clause-kept c = c.block_again.ensures.kept c.args.self.now c.in
 pub returns-in-Net-clause-kept : goal.returns-in-Net-clause-kept
 returns-in-Net-clause-kept c = c.net_again.ensures.kept c.args.self.now c.in-Net.is
 
-<<<<<<< f4895c43
+<<<<<<< 8bde38ab
 pub returns-in-Vsock-clause-kept : goal.returns-in-Vsock-clause-kept
 returns-in-Vsock-clause-kept c = c.vsock_again.ensures.kept c.args.self.now c.in-Vsock.is
 

@@ -1,4 +1,4 @@
-<<<<<<< f4895c43
+<<<<<<< 8bde38ab
 =======
 use Rattle.std.proofs.Common.{rules}
 >>>>>>> m
@@ -10,7 +10,7 @@ returns-in-Block-clause-kept c = c.port_of_block.ensures.kept c.args.self.now c.
 pub returns-in-Net-clause-kept : goal.returns-in-Net-clause-kept
 returns-in-Net-clause-kept c = c.port_of_net.ensures.kept c.args.self.now c.in-Net.is
 
-<<<<<<< f4895c43
+<<<<<<< 8bde38ab
 pub returns-in-Vsock-clause-kept : goal.returns-in-Vsock-clause-kept
 returns-in-Vsock-clause-kept c = c.port_of_vsock.ensures.kept c.args.self.now c.in-Vsock.is
 

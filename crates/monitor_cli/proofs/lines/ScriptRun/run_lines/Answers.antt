@@ -1,7 +1,7 @@
 use Rattle.std.proofs.Common.{◌≡◌, [], List, ℕ, arith, refl, sym, subst, ◌∙◌}
+use Rattle.vm_outside.proofs.Passing.{lasts_more}
 use Rattle.script_text.specs.Lines.{judged}
 use Rattle.monitor_cli.proofs.Arriving.{goes_on}
-use Rattle.monitor_cli.proofs.Counts.{lasts_more}
 use Rattle.monitor_cli.proofs.Halting.{bad_line, item_ends, no_memory}
 use Rattle.monitor_cli.proofs.lines.ScriptRun.run_lines.Goals as goal
 

@@ -2,7 +2,7 @@ use Rattle.std.proofs.Common.{◌≡◌, refl, ap, subst, ◌∙◌, List, ℕ}
 use Rattle.http_stream.specs.Sent.{sent}
 use Rattle.script_text.specs.declared.item.Item.{Item}
 use Rattle.monitor_core.specs.declared.item_error.ItemError.{ItemError}
-use Rattle.response_form.specs.declared.form.ResponseForm.TheVariants.{Line}
+use Rattle.responses.specs.declared.form.ResponseForm.TheVariants.{Line}
 use Rattle.gate_file.specs.Runs.{RunsAll, RunsPart, save_calls}
 use Rattle.monitor_machine.specs.declared.machine.LiveMachine.{LiveMachine}
 use Rattle.monitor_core.specs.declared.monitor.Monitor.{Monitor}

@@ -23,7 +23,7 @@ returns-clause-ok g c =
     rw (← c.self.view_is)
     (λ request kept due.
     let known = g.F.Files.known in
-<<<<<<< f4895c43
+<<<<<<< 8bde38ab
     is_written c.args.form c.args.creation (live_of c.self.inside)
     (record (live_of c.self.inside) { ids = c.end_create.new.ids; guest = c.end_create.new.guest }) c.in-Some.guest c.args.text.now c.in-Ok.texts.done (known c.args.files.now)
 =======

@@ -1,6 +1,6 @@
 use Rattle.std.proofs.Common.{◌∙◌, ◌∷◌, ap}
 use Rattle.snap_diff.specs.Headers.{behind_gate}
-<<<<<<< f4895c43
+<<<<<<< 8bde38ab
 use Rattle.snap_diff.proofs.Starts.{gated, start_is, start_size, start_then}
 =======
 use Rattle.snap_diff.proofs.Files.{gated, start_is, start_size, start_then}
@@ -9,7 +9,7 @@ use Rattle.snap_diff.proofs.header.DiffHeader.encode_behind_gate.Goals as goal
 
 pub returns-clause-bytes : goal.returns-clause-bytes
 returns-clause-bytes c =
-<<<<<<< f4895c43
+<<<<<<< 8bde38ab
     start_is c.args.self.now c.args.runs.now c.write_behind_gate.new.out.items c.write_items.new.out.items
 =======
     start_is c.args.self.now c.args.numbers.now c.write_behind_gate.new.out.items c.write_items.new.out.items
@@ -18,7 +18,7 @@ returns-clause-bytes c =
 
 pub returns-clause-size : goal.returns-clause-size
 returns-clause-size c =
-<<<<<<< f4895c43
+<<<<<<< 8bde38ab
     start_size c.args.self.now c.args.runs.now c.write_items.new.out.items c.requires.count
     (start_is c.args.self.now c.args.runs.now c.write_behind_gate.new.out.items c.write_items.new.out.items
     (c.in_ok-write_behind_gate.ensures.bytes ∙ ap (behind_gate.puts c.args.self.now) c.new-start.ensures.items) c.in_ok-write_items.ensures.bytes)

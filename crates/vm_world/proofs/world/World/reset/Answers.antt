@@ -20,7 +20,7 @@ returns-clause-guest c = λ g is.
     let w = c.self.inside in
     let same = c.deref_mut.ensures.value in
     let long = c.reset_all.auto.devices in
-<<<<<<< f4895c43
+<<<<<<< 8bde38ab
     let items = with_items_is w.devices c.reset_all.new.devices (omega (arith, long, ap length same, w.devices.ok)) in
     reset_is c.args.self.now _ g
     (world_is c.args.self.now

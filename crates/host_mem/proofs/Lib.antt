@@ -1,4 +1,0 @@
-pub mod Giving
-pub mod Naming
-pub mod Steps
-pub mod Wires

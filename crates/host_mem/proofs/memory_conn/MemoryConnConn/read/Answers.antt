@@ -1,4 +1,0 @@
-use Rattle.host_mem.proofs.memory_conn.MemoryConnConn.read.Goals as goal
-
-pub returns-clause-bytes : goal.returns-clause-bytes
-returns-clause-bytes c tells = c.give.ensures.comes _ _

@@ -1,5 +1,0 @@
-use Rattle.std.proofs.Common.{rules}
-use Rattle.script_output.proofs.lines.append_shown.Goals as goal
-
-pub returns-in_err-append : goal.returns-in_err-append
-returns-in_err-append c = search rules

@@ -1,6 +1,0 @@
-use Rattle.std.proofs.Common.{◌≡◌, ◌++◌, codes, flat_map, take}
-use Rattle.script_output.specs.Output.{shown}
-use Rattle.script_output.proofs.lines.console_line.Given as goal
-
-abbrev pub invariant-loop-byte : goal.invariant-loop-byte
-invariant-loop-byte l = l.line ≡ codes "! " ++ flat_map shown (take l.byte-index l.bytes)
