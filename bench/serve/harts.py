@@ -8,11 +8,7 @@ import time
 from hart import hex_of, used
 from machine import PROGRAM, TOP, calls, image_of, load, put, serve
 
-<<<<<<< 8bde38ab
-ROUNDS = int(os.environ.get("ROUNDS", "15000"))
-=======
 ROUNDS = int(os.environ.get("ROUNDS", "100000"))
->>>>>>> m
 TURNS = int(os.environ.get("TURNS", "3"))
 MIB = 128
 # in a replay the harts make so many events each, one after another
@@ -25,11 +21,7 @@ def wanted(rounds):
 
 def steps(harts, rounds):
     """Lines for more events than the guest makes, of which the replay looks at none once the guest is off."""
-<<<<<<< 8bde38ab
-    most = 4000 * rounds + 1000000
-=======
     most = 3000 * rounds + 1000000
->>>>>>> m
     return "".join(f"step h{hart} {SLICE}\n" for hart in range(harts)) * (2 * most // (harts * SLICE))
 
 

@@ -69,6 +69,7 @@ NUMBERS = [0, 1, 2, 3, 4, 15, 16, 17, 31, 32, 33, 63, 64, 65, 127, 128, 255, 256
            2**31 - 1, 2**31, 2**32 - 1, 2**32, 2**53, 2**63 - 1, 2**63, 2**64 - 1, 2**64, 10**30]
 TEXTS = ["", "a", "None", "x" * 64, "x" * 65, "x" * 4095, "x" * 4096, "\0", "é"]
 VALUES = [None, True, False, 0, 1, -1, 1.0, 1e3, *TEXTS, [], [1], {}, {"a": 1}]
+LIMITER = {"bandwidth": {"size": 100, "refill_time": 10, "one_time_burst": 5}, "ops": {"size": 0, "refill_time": 1}}
 # The calls of the API with the fields of their bodies.
 CALLS = [
     ("PUT", "/boot-source", {"kernel_image_path": "k", "initrd_path": "i", "boot_args": "a b"}),
@@ -91,10 +92,19 @@ CALLS = [
     ("PUT", "/snapshot/load", {"snapshot_path": "s", "mem_backend": {"backend_path": "m", "backend_type": "File"},
                                "enable_diff_snapshots": True}),
     ("GET", "/", None), ("GET", "/version", None), ("GET", "/machine-config", None), ("GET", "/mmds", None), ("GET", "/vm/config", None),
+    ("PUT", "/drives/l", {"drive_id": "l", "path_on_host": "disk", "is_root_device": False, "rate_limiter": LIMITER}),
+    ("PATCH", "/drives/l", {"drive_id": "l", "rate_limiter": {"ops": None, "bandwidth": LIMITER["ops"]}}),
+    ("PUT", "/network-interfaces/n", {"iface_id": "n", "host_dev_name": "t", "guest_mac": "02:00:00:00:00:0A", "tx_rate_limiter": LIMITER}),
+    ("PATCH", "/network-interfaces/n", {"iface_id": "n", "rx_rate_limiter": LIMITER, "tx_rate_limiter": {}}),
+    ("PUT", "/vsock", {"guest_cid": 3, "uds_path": "v", "vsock_id": "a"}),
+    ("PUT", "/balloon", {"amount_mib": 1, "deflate_on_oom": True, "stats_polling_interval_s": 1}),
+    ("PATCH", "/balloon", {"amount_mib": 2}), ("PATCH", "/balloon/statistics", {"stats_polling_interval_s": 2}),
+    ("PUT", "/mmds/config", {"network_interfaces": ["n"], "version": "V2", "ipv4_address": "169.254.169.254"}),
+    ("GET", "/balloon", None), ("GET", "/balloon/statistics", None),
 ]
 METHODS = ["GET", "PUT", "PATCH", "POST", "DELETE", "HEAD", "get", "FOO", "P\x01T", ""]
 PATHS = ["/", "/version", "/vm/config", "/drives/", "/drives/d/", "/drives/" + "d" * 65, "/drives/d?x", "//", "/boot-source/", "*",
-         "http://a/", "", "/snapshot/create"]
+         "http://a/", "", "/snapshot/create", "/vsock", "/mmds/config", "/network-interfaces/n", "/entropy"]
 REPLIES = ["ok", "fail", "none", "now 0", "now 18446744073709551615", "part " + "5a" * 64, "part " + "00" * 63, "part", "frame 14",
            "new 1", "bytes 1 61", "ended 1", "dialled 1"]
 # A guest of seven instructions that goes round and counts in a word of one of 32 pages after the other: auipc t0, 16; addi t2, t2, 1;
@@ -168,7 +178,8 @@ class Inputs:
         """Calls in any order, with fields that are missing, at limits, of another type, or unknown."""
         lines = [f"file k {IMAGE}".encode(), b"file i 00", b"file disk " + b"00" * 1024, b"file other " + b"00" * 513]
         start = [("PUT", "/boot-source", {"kernel_image_path": "k"}),
-                 ("PUT", "/machine-config", {"mem_size_mib": 4, "track_dirty_pages": True}), ("PUT", "/drives/d", CALLS[2][2]),
+                 ("PUT", "/machine-config", {"vcpu_count": 1, "mem_size_mib": 4, "track_dirty_pages": True}),
+                 ("PUT", "/drives/d", CALLS[2][2]),
                  ("PUT", "/actions", {"action_type": "InstanceStart"}), ("PATCH", "/vm", {"state": "Paused"}), CALLS[12]]
         for method, path, fields in start[: chance.randint(0, len(start))]:
             lines.append(api_line(method, path, json.dumps(fields)))

@@ -12,36 +12,21 @@ use Rattle.api_calls.specs.declared.call.ApiCall.{ApiCall}
 use Rattle.api_calls.specs.declared.call.ApiCall.TheVariants as call
 use Rattle.vm_config.specs.declared.config.Config.{Config}
 use Rattle.vm_config.specs.declared.config.Phase.{Phase}
-<<<<<<< 8bde38ab
-=======
-use Rattle.vm_config.specs.declared.config.Phase.TheVariants as phase
->>>>>>> m
 use Rattle.vm_config.specs.declared.statistics.Statistics.{Statistics}
 use Rattle.vm_config.specs.Devices.{balloon_device}
 use Rattle.vm_config.specs.declared.change.Change.{Change}
 use Rattle.vm_config.specs.declared.change.Change.TheVariants as change
 use Rattle.api_rules.specs.declared.answer.Answer.{Answer}
-<<<<<<< 8bde38ab
 use Rattle.api_rules.specs.declared.ids.Ids.{Ids}
 use Rattle.api_rules.specs.Table.{change_of, decision, first_refusal, has_started, is_diff, is_paused, misplaced, own_refusal, unless, when_allowed}
 use Rattle.responses.specs.Responses.{Response}
-=======
-use Rattle.api_rules.specs.declared.deciding.When.TheVariants.{BeforeBoot}
-use Rattle.api_rules.specs.declared.ids.Ids.{Ids}
-use Rattle.api_rules.specs.Table.{change_of, decision, first_refusal, has_started, is_diff, is_paused, misplaced, own_refusal, unless, when_allowed}
-use Rattle.response_form.specs.Responses.{Response}
->>>>>>> m
 use Rattle.flat_guest.specs.Guest.{Guest}
 use Rattle.flat_snapshot.proofs.Finds.{both}
 use Rattle.flat_machine.specs.Balloon.{TellsBalloon}
 use Rattle.flat_machine.specs.Machine.{Machine, phase_by, phase_of}
 use Rattle.flat_machine.specs.Requests.{AnswersBy, Responds, allowed, by_contents, decided, file_refusal}
 use Rattle.flat_machine.proofs.Allowed.{not_refused, same_change}
-<<<<<<< 8bde38ab
 use Rattle.flat_machine.proofs.Between.{IsLater, at_its_time, started}
-=======
-use Rattle.flat_machine.proofs.Between.{IsLater, started}
->>>>>>> m
 use Rattle.alike_runs.specs.Alike.{Alike}
 use Rattle.alike_runs.specs.Twins.{Twins}
 use Rattle.alike_runs.proofs.Files.{base_none, file_there}
@@ -49,33 +34,6 @@ use Rattle.alike_runs.proofs.Guests.{tells_too}
 
 -- ---- which calls are allowed of a machine that has started
 
-<<<<<<< 8bde38ab
-=======
-never : {A : Type 0} (p : Phase) → has_started p ≡ true → misplaced BeforeBoot p ≡ None → A
-never phase.NotStarted has placed = absurd cc
-never phase.Running has placed = absurd cc
-never phase.Paused has placed = absurd cc
-
-later_by : (p : Phase) (config : Config) (c : ApiCall) → has_started p ≡ true → misplaced (when_allowed c) p ≡ None → IsLater (change_of config c)
-later_by p config (call.PutBootSource source) has placed = never p has placed
-later_by p config (call.PutDrive drive) has placed = never p has placed
-later_by p config (call.PatchDrive patch) has placed = tt
-later_by p config (call.PutInterface interface) has placed = never p has placed
-later_by p config (call.PatchInterface patch) has placed = tt
-later_by p config (call.PutMachineConfig machine) has placed = never p has placed
-later_by p config (call.PatchMachineConfig patch) has placed = never p has placed
-later_by p config (call.PutBalloon balloon) has placed = never p has placed
-later_by p config (call.PatchBalloon patch) has placed = tt
-later_by p config (call.PatchStatistics patch) has placed = tt
-later_by p config (call.PutMetadata body) has placed = tt
-later_by p config (call.PatchMetadata patch) has placed = tt
-later_by p config call.InstanceStart has placed = never p has placed
-later_by p config (call.PatchVm state) has placed = tt
-later_by p config (call.CreateSnapshot it) has placed = tt
-later_by p config (call.LoadSnapshot load) has placed = never p has placed
-later_by p config (call.Get part) has placed = tt
-
->>>>>>> m
 later_is : (m : Machine) (given : Next) (it : Change) → has_started (phase_of m) ≡ true → decided m given ≡ Ok it → IsLater it
 later_is m (next.Request r) it has is =
     let asked = both (call_of r) (decision (phase_of m) m.config m.ids) it is in
@@ -83,11 +41,7 @@ later_is m (next.Request r) it has is =
     let own : Option Refusal = own_refusal (phase_of m) m.config m.ids asked.0 in
     let placed = not_refused (misplaced (when_allowed asked.0) (phase_of m)) (unless own (Ok due)) it asked.2 in
     let taken = not_refused own (Ok due) it placed.1 in
-<<<<<<< 8bde38ab
     subst IsLater (same_change due it taken.1) (at_its_time (phase_of m) m.config asked.0 has placed.0)
-=======
-    subst IsLater (same_change due it taken.1) (later_by (phase_of m) m.config asked.0 has placed.0)
->>>>>>> m
 later_is m (next.Bad why) it has is = absurd cc
 later_is m next.None it has is = absurd cc
 
@@ -102,17 +56,11 @@ own_alike p config a b (call.PutInterface interface) none number = refl
 own_alike p config a b (call.PatchInterface patch) none number = refl
 own_alike p config a b (call.PutMachineConfig machine) none number = refl
 own_alike p config a b (call.PatchMachineConfig patch) none number = refl
-<<<<<<< 8bde38ab
 own_alike p config a b (call.PutVsock vsock) none number = refl
 own_alike p config a b (call.PutBalloon balloon) none number = refl
 own_alike p config a b (call.PatchBalloon patch) none number = refl
 own_alike p config a b (call.PatchStatistics patch) none number = refl
 own_alike p config a b (call.PutMmdsConfig mmds) none number = refl
-=======
-own_alike p config a b (call.PutBalloon balloon) none number = refl
-own_alike p config a b (call.PatchBalloon patch) none number = refl
-own_alike p config a b (call.PatchStatistics patch) none number = refl
->>>>>>> m
 own_alike p config a b (call.PutMetadata body) none number = refl
 own_alike p config a b (call.PatchMetadata patch) none number = refl
 own_alike p config a b call.InstanceStart none number = refl
@@ -167,10 +115,7 @@ module _ (twins : List Twins) (m n : Machine) (alike : Alike twins m n) where
   contents_alike (change.PutInterface interface) later = absurd later
   contents_alike (change.PatchInterface patch) later = refl
   contents_alike (change.MachineConfig machine) later = absurd later
-<<<<<<< 8bde38ab
   contents_alike (change.PutVsock vsock) later = absurd later
-=======
->>>>>>> m
   contents_alike (change.PutBalloon balloon) later = absurd later
   contents_alike (change.PatchBalloon patch) later = refl
   contents_alike (change.PatchStatistics patch) later = refl
@@ -178,10 +123,7 @@ module _ (twins : List Twins) (m n : Machine) (alike : Alike twins m n) where
   contents_alike (change.State state) later = refl
   contents_alike (change.CreateSnapshot it) later = refl
   contents_alike (change.LoadSnapshot load) later = absurd later
-<<<<<<< 8bde38ab
   contents_alike (change.MmdsConfig mmds) later = absurd later
-=======
->>>>>>> m
   contents_alike (change.PutMetadata body) later = refl
   contents_alike (change.PatchMetadata patch) later =
       ap (λ (d : Data). patched d patch >>= (λ (kept : Data). Ok (change.PatchMetadata patch))) alike.metadata

@@ -7,13 +7,9 @@ use Rattle.http_stream.specs.Stream.{Connection}
 use Rattle.gate_file.specs.Runs.{save_calls}
 use Rattle.vm_config.specs.declared.config.Config.{Config}
 use Rattle.snap_writer.specs.Create.{create_calls}
-<<<<<<< 8bde38ab
 use Rattle.file_format.specs.declared.version.Version.TheVariants.{Two}
 use Rattle.snap_diff.specs.Copies.{DiffCopy, diff_of, pages_at}
 use Rattle.snap_diff.specs.Diffs.{stored_pages}
-=======
-use Rattle.snap_diff.specs.Copies.{DiffCopy, diff_of, pages_at}
->>>>>>> m
 use Rattle.snap_state.specs.declared.copy.StateCopy.{StateCopy}
 use Rattle.flat_guest.specs.Guest.{Guest, numbers_written}
 use Rattle.flat_snapshot.specs.Files.{calls_of, diff_file, diff_head, diff_in, head_of, memory_file, saved_pages, state_body}
@@ -144,11 +140,7 @@ module _ (more : List Twins) (t : Twins) (among : IsAmong t more) (copy : StateC
   saved_same None None base = bytes_same
   saved_same None (Some b) base = absurd base
   saved_same (Some a) None base = absurd base
-<<<<<<< 8bde38ab
   saved_same (Some a) (Some b) base = λ i. stored_pages Two (length (pages_same i)) (pages_at (pages_same i) (bytes_same i))
-=======
-  saved_same (Some a) (Some b) base = λ i. pages_at (pages_same i) (bytes_same i)
->>>>>>> m
 
   -- the diff of the second guest is that of the first, with another parent and under another identity
   abbrev diff_at : Identity → List ℕ → List ℕ → DiffCopy

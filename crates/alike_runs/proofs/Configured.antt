@@ -29,13 +29,8 @@ use Rattle.guest_devices.specs.declared.change.DeviceChange.{DeviceChange}
 use Rattle.guest_devices.specs.Kinds.{sectors_change}
 use Rattle.script_text.specs.declared.item.Item.{Item}
 use Rattle.script_text.specs.declared.item.Item.TheVariants as item
-<<<<<<< 8bde38ab
 use Rattle.responses.specs.Output.{console_line}
 use Rattle.responses.specs.Responses.{Response}
-=======
-use Rattle.script_output.specs.Output.{console_line}
-use Rattle.response_form.specs.Responses.{Response}
->>>>>>> m
 use Rattle.guest_devices.specs.declared.device.Device.{Device}
 use Rattle.flat_guest.specs.Given.{Given}
 use Rattle.flat_guest.specs.Given.Given.{Host, Nothing}
@@ -140,10 +135,7 @@ leaves_kept (change.PatchInterface patch) m n is own =
     ∙ relimited_there receives_told patch.rx_rate_limiter number m.guest)
     (ap (λ (q : Machine). q.config.configured) is) own
 leaves_kept (change.MachineConfig machine) m n is own = λ there. ap (λ (q : Machine). q.config.configured) is
-<<<<<<< 8bde38ab
 leaves_kept (change.PutVsock vsock) m n is own = λ there. ap (λ (q : Machine). q.config.configured) is
-=======
->>>>>>> m
 leaves_kept (change.PutBalloon balloon) m n is own = λ there. ap (λ (q : Machine). q.config.configured) is
 leaves_kept (change.PatchBalloon patch) m n is own =
     kept m n
@@ -162,10 +154,7 @@ leaves_kept (change.State Resumed) m n is own =
     kept m n (ap (λ (q : Machine). is_some q.guest) is) (ap (λ (q : Machine). q.config.configured) is) own
 leaves_kept (change.CreateSnapshot it) m n (devices, x) own = create_kept m.guest m it devices n refl x own
 leaves_kept (change.LoadSnapshot load) m n x own = load_kept (found m.saved load.files) m load n x own
-<<<<<<< 8bde38ab
 leaves_kept (change.MmdsConfig mmds) m n is own = λ there. ap (λ (q : Machine). q.config.configured) is
-=======
->>>>>>> m
 leaves_kept (change.PutMetadata body) m n x own = store_kept (put body) m n x own
 leaves_kept (change.PatchMetadata patch) m n x own = store_kept (patched m.metadata patch) m n x own
 leaves_kept (change.Tell part) m n is own = same m n is own
@@ -181,10 +170,7 @@ failed_kept (change.PatchDrive patch) m left n x own = same m n x.3 own
 failed_kept (change.PutInterface interface) m left n x own = absurd x
 failed_kept (change.PatchInterface patch) m left n x own = absurd x
 failed_kept (change.MachineConfig machine) m left n x own = absurd x
-<<<<<<< 8bde38ab
 failed_kept (change.PutVsock vsock) m left n x own = absurd x
-=======
->>>>>>> m
 failed_kept (change.PutBalloon balloon) m left n x own = absurd x
 failed_kept (change.PatchBalloon patch) m left n x own = absurd x
 failed_kept (change.PatchStatistics patch) m left n x own = absurd x
@@ -192,10 +178,7 @@ failed_kept change.Start m left n x own = same m n x.1 own
 failed_kept (change.State state) m left n x own = absurd x
 failed_kept (change.CreateSnapshot it) m left n x own = fails_kept m.guest m it left n x own
 failed_kept (change.LoadSnapshot load) m left n x own = same m n x.1 own
-<<<<<<< 8bde38ab
 failed_kept (change.MmdsConfig mmds) m left n x own = absurd x
-=======
->>>>>>> m
 failed_kept (change.PutMetadata body) m left n x own = absurd x
 failed_kept (change.PatchMetadata patch) m left n x own = absurd x
 failed_kept (change.Tell part) m left n x own = absurd x

@@ -13,19 +13,11 @@ use Rattle.gate_file.proofs.Inserts.{got_other, got_there}
 use Rattle.vm_outside.proofs.Imaging.{got}
 use Rattle.file_format.specs.Identities.{identity}
 use Rattle.file_format.specs.Kinds.{byte, fixed, number32, number64}
-<<<<<<< 8bde38ab
 use Rattle.file_format.specs.declared.version.Version.TheVariants.{Two}
 use Rattle.snap_memory.specs.Headers.{header, new_header}
 use Rattle.snap_diff.specs.Copies.{DiffCopy}
 use Rattle.snap_diff.specs.Diffs.{header_in, runs_in, stored_pages, table_bytes}
 use Rattle.snap_diff.specs.Headers as diffs
-=======
-use Rattle.snap_memory.specs.Headers.{header, new_header}
-use Rattle.snap_diff.specs.Copies.{DiffCopy}
-use Rattle.snap_diff.specs.Diffs.{table_bytes}
-use Rattle.snap_diff.specs.Headers as diffs
-use Rattle.snap_diff.specs.Headers.{header_of}
->>>>>>> m
 use Rattle.snap_diff.proofs.Fronts as diff_fronts
 use Rattle.snap_state.specs.declared.copy.StateCopy.{StateCopy}
 use Rattle.flat_snapshot.specs.Files.{diff_head, memory_head, state_body}
@@ -89,7 +81,6 @@ memory_long pages i j = dropped (header.bytes (new_header pages i)) (header.byte
 pub diff_long : (p q i j : Identity) (d : DiffCopy) → length (diff_head (diff_as p i d)) ≡ length (diff_head (diff_as q j d))
 unfolding diff_head
 diff_long p q i j d =
-<<<<<<< 8bde38ab
     let table : List ℕ = table_bytes Two (runs_in Two d) in
     dropped (diffs.header.bytes (header_in Two (diff_as p i d)) ++ table) (diffs.header.bytes (header_in Two (diff_as q j d)) ++ table)
     (omega (
@@ -98,16 +89,6 @@ diff_long p q i j d =
       length-append (diffs.header.bytes (header_in Two (diff_as q j d))) table,
       diff_fronts.length-header (header_in Two (diff_as p i d)),
       diff_fronts.length-header (header_in Two (diff_as q j d)),
-=======
-    dropped (diffs.header.bytes (header_of (diff_as p i d)) ++ table_bytes d.numbers)
-    (diffs.header.bytes (header_of (diff_as q j d)) ++ table_bytes d.numbers)
-    (omega (
-      arith,
-      length-append (diffs.header.bytes (header_of (diff_as p i d))) (table_bytes d.numbers),
-      length-append (diffs.header.bytes (header_of (diff_as q j d))) (table_bytes d.numbers),
-      diff_fronts.length-header (header_of (diff_as p i d)),
-      diff_fronts.length-header (header_of (diff_as q j d)),
->>>>>>> m
     ))
 
 pub state_long : (i j : Identity) (copy : StateCopy) → length (state_body i copy) ≡ length (state_body j copy)
@@ -127,11 +108,7 @@ module _ (twins : List Twins) where
       ∙ sym (ap length second)
   files_long t a b (DiffFiles i j d twin first second) =
       ap length first
-<<<<<<< 8bde38ab
       ∙ ap suc (joined (diff_head (diff_as i t.first d)) (diff_head (diff_as j t.second d)) (stored_pages Two (length d.numbers) d.bytes) (diff_long i j t.first t.second d))
-=======
-      ∙ ap suc (joined (diff_head (diff_as i t.first d)) (diff_head (diff_as j t.second d)) d.bytes (diff_long i j t.first t.second d))
->>>>>>> m
       ∙ sym (ap length second)
 
   pub bytes_long : (a b : List ℕ) → AlikeBytes twins a b → length a ≡ length b

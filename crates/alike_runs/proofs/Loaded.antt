@@ -45,15 +45,10 @@ module _ (m k : Machine) (had : Guest) (it : SnapshotCreate) (load : SnapshotLoa
         boot_source = source_kept m.config.boot_source own.source i;
         drives = m.config.drives;
         interfaces = m.config.interfaces;
-<<<<<<< 8bde38ab
         vsock = m.config.vsock;
         machine = record m.config.machine { track_dirty_pages = load.track_dirty_pages };
         balloon = m.config.balloon;
         mmds = m.config.mmds;
-=======
-        machine = record m.config.machine { track_dirty_pages = load.track_dirty_pages };
-        balloon = m.config.balloon;
->>>>>>> m
         configured = is_set i;
       }
 

@@ -19,11 +19,7 @@ use Rattle.vm_config.specs.declared.change.Change.TheVariants as change
 use Rattle.vm_config.specs.Changes.{changed, with_amount, with_interval}
 use Rattle.vm_config.specs.Devices.{balloon_device, interface_device}
 use Rattle.vm_config.specs.Drives.{device_of}
-<<<<<<< 8bde38ab
 use Rattle.responses.specs.Responses.{Response}
-=======
-use Rattle.response_form.specs.Responses.{Response}
->>>>>>> m
 use Rattle.port_table.specs.declared.state.PortState.{PortState}
 use Rattle.guest_devices.specs.declared.change.DeviceChange.{DeviceChange}
 use Rattle.guest_devices.specs.declared.device.Device.{Device}
@@ -226,10 +222,7 @@ module _ (twins : List Twins) (m n : Machine) (alike : Alike twins m n) where
       led twins k l (λ (q : Machine). LeavesBy n (Ok (change.PatchInterface patch)) kept q) (none, refl)
       (moved twins k (configured (patched_interface m patch) (change.PatchInterface patch)) l is (limits_alike patch))
   leaves_alike (change.MachineConfig machine) kept k later x = absurd later
-<<<<<<< 8bde38ab
   leaves_alike (change.PutVsock vsock) kept k later x = absurd later
-=======
->>>>>>> m
   leaves_alike (change.PutBalloon balloon) kept k later x = absurd later
   leaves_alike (change.PatchBalloon patch) kept k later (none, is) =
       let l : Machine = configured (patched_balloon n patch) (change.PatchBalloon patch) in
@@ -239,10 +232,7 @@ module _ (twins : List Twins) (m n : Machine) (alike : Alike twins m n) where
       let l : Machine = configured (patched_statistics n patch) (change.PatchStatistics patch) in
       led twins k l (λ (q : Machine). LeavesBy n (Ok (change.PatchStatistics patch)) kept q) (none, refl)
       (moved twins k (configured (patched_statistics m patch) (change.PatchStatistics patch)) l is (interval_alike patch))
-<<<<<<< 8bde38ab
   leaves_alike (change.MmdsConfig mmds) kept k later x = absurd later
-=======
->>>>>>> m
   leaves_alike (change.PutMetadata body) kept k later (none, x) =
       let on = stores_alike (put body) k x in
       led twins k on.0 (λ (q : Machine). LeavesBy n (Ok (change.PutMetadata body)) kept q) (none, on.1) on.2
@@ -282,10 +272,7 @@ module _ (twins : List Twins) (m n : Machine) (alike : Alike twins m n) where
   failed_alike (change.PutInterface interface) left k x = absurd x
   failed_alike (change.PatchInterface patch) left k x = absurd x
   failed_alike (change.MachineConfig machine) left k x = absurd x
-<<<<<<< 8bde38ab
   failed_alike (change.PutVsock vsock) left k x = absurd x
-=======
->>>>>>> m
   failed_alike (change.PutBalloon balloon) left k x = absurd x
   failed_alike (change.PatchBalloon patch) left k x = absurd x
   failed_alike (change.PatchStatistics patch) left k x = absurd x
@@ -293,10 +280,7 @@ module _ (twins : List Twins) (m n : Machine) (alike : Alike twins m n) where
   failed_alike (change.State state) left k x = absurd x
   failed_alike (change.CreateSnapshot it) left k x = fails_alike twins m n alike it left k m.guest n.guest alike.first alike.second x
   failed_alike (change.LoadSnapshot load) left k (none, same) = (n, (none, refl), moved twins k m n same alike)
-<<<<<<< 8bde38ab
   failed_alike (change.MmdsConfig mmds) left k x = absurd x
-=======
->>>>>>> m
   failed_alike (change.PutMetadata body) left k x = absurd x
   failed_alike (change.PatchMetadata patch) left k x = absurd x
   failed_alike (change.Tell part) left k x = absurd x

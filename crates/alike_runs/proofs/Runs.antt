@@ -15,13 +15,8 @@ use Rattle.script_text.specs.declared.item.Item.TheVariants as item
 use Rattle.script_text.specs.declared.output.Misfit.{Misfit}
 use Rattle.script_text.specs.declared.output.Misfit.TheVariants as misfit
 use Rattle.script_text.specs.Output.{memory_line}
-<<<<<<< 8bde38ab
 use Rattle.responses.specs.Output.{console_line}
 use Rattle.responses.specs.Responses.{Response}
-=======
-use Rattle.script_output.specs.Output.{console_line}
-use Rattle.response_form.specs.Responses.{Response}
->>>>>>> m
 use Rattle.flat_guest.specs.Given.{Given}
 use Rattle.flat_guest.specs.Guest.{Guest, is_actor}
 use Rattle.flat_guest.specs.Steps.{guest_after, is_given}

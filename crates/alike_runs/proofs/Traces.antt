@@ -4,11 +4,7 @@ use Rattle.vm_types.specs.declared.ids.ActorId.{ActorId}
 use Rattle.board_table.specs.Board.{Board}
 use Rattle.script_text.specs.declared.item.Item.{Item}
 use Rattle.script_text.specs.declared.item.Item.TheVariants as item
-<<<<<<< 8bde38ab
 use Rattle.responses.specs.Output.{console_line}
-=======
-use Rattle.script_output.specs.Output.{console_line}
->>>>>>> m
 use Rattle.flat_guest.specs.Given.{Given}
 use Rattle.flat_guest.specs.Given.Given.{Host, Nothing}
 use Rattle.flat_guest.specs.Guest.{Guest}

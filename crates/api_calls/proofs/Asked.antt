@@ -12,23 +12,15 @@ use Rattle.api_calls.specs.declared.endpoint.Body.TheVariants as body
 use Rattle.api_calls.specs.declared.endpoint.Endpoint.{Endpoint}
 use Rattle.api_calls.specs.declared.endpoint.Endpoint.TheVariants as endpoint
 use Rattle.api_calls.specs.Addresses.{is_small_mac}
-<<<<<<< 8bde38ab
 use Rattle.api_calls.specs.Form.{are_ids, holds, is_address, is_path, is_id, refusal}
-=======
-use Rattle.api_calls.specs.Form.{holds, is_path, is_id, refusal}
->>>>>>> m
 use Rattle.api_calls.specs.Limits.{is_limiter}
 use Rattle.api_calls.specs.Fields.{form_of}
 use Rattle.api_calls.specs.Call.{◌>>=◌, json_of, object_in, object_of, unless, made, asked, call_of}
 use Rattle.api_calls.specs.Routes.{Target, target_of}
 use Rattle.api_calls.proofs.Drives.{drive_is, patch_is}
 use Rattle.api_calls.proofs.Interfaces.{interface_is, interface_patch_is}
-<<<<<<< 8bde38ab
 use Rattle.api_calls.proofs.Metadata.{mmds_is}
 use Rattle.api_calls.proofs.Ranges.{IsWithin, balloon_is, machine_is, machine_patch_is, source_is, statistics_is, vsock_is}
-=======
-use Rattle.api_calls.proofs.Ranges.{IsWithin, balloon_is, machine_is, machine_patch_is, source_is, statistics_is}
->>>>>>> m
 use Rattle.api_calls.proofs.Snapshots.{create_is, load_is}
 
 -- what is said of a call
@@ -46,20 +38,14 @@ IsAsked (call.PutInterface interface) =
 IsAsked (call.PatchInterface patch) =
     (is_id patch.iface_id ≡ true)
     × ((holds is_limiter patch.rx_rate_limiter ≡ true) × (holds is_limiter patch.tx_rate_limiter ≡ true))
-<<<<<<< 8bde38ab
 IsAsked (call.PutVsock vsock) = IsWithin 3 4294967294 vsock.guest_cid × (is_path vsock.uds_path ≡ true)
-=======
->>>>>>> m
 IsAsked (call.PutMachineConfig machine) = IsWithin 1 32 machine.vcpu_count × IsWithin 4 1024 machine.mem_size_mib
 IsAsked (call.PatchMachineConfig patch) =
     ((n : ℕ) → patch.vcpu_count ≡ Some n → IsWithin 1 32 n) × ((n : ℕ) → patch.mem_size_mib ≡ Some n → IsWithin 4 1024 n)
 IsAsked (call.PutBalloon balloon) = balloon.stats_polling_interval_s < 2 ^ 16
 IsAsked (call.PatchBalloon patch) = ⊤
 IsAsked (call.PatchStatistics patch) = patch.stats_polling_interval_s < 2 ^ 16
-<<<<<<< 8bde38ab
 IsAsked (call.PutMmdsConfig mmds) = (are_ids mmds.network_interfaces ≡ true) × (is_address mmds.ipv4_address ≡ true)
-=======
->>>>>>> m
 IsAsked (call.PutMetadata d) = ⊤
 IsAsked (call.PatchMetadata d) = ⊤
 IsAsked call.InstanceStart = ⊤
@@ -76,19 +62,13 @@ made_is body.Drive named ms none = drive_is named ms none
 made_is body.DrivePatch named ms none = patch_is named ms none
 made_is body.Interface named ms none = interface_is named ms none
 made_is body.InterfacePatch named ms none = interface_patch_is named ms none
-<<<<<<< 8bde38ab
 made_is body.Vsock named ms none = vsock_is ms none
-=======
->>>>>>> m
 made_is body.MachineConfig named ms none = machine_is ms none
 made_is body.MachinePatch named ms none = machine_patch_is ms none
 made_is body.Balloon named ms none = balloon_is ms none
 made_is body.BalloonPatch named ms none = tt
 made_is body.StatisticsPatch named ms none = statistics_is ms none
-<<<<<<< 8bde38ab
 made_is body.MmdsConfig named ms none = mmds_is ms none
-=======
->>>>>>> m
 made_is body.Metadata named ms none = tt
 made_is body.MetadataPatch named ms none = tt
 made_is body.Action named ms none = tt

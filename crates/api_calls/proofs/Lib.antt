@@ -4,8 +4,5 @@ pub mod Ranges
 pub mod Limits
 pub mod Drives
 pub mod Interfaces
-<<<<<<< 8bde38ab
 pub mod Metadata
-=======
->>>>>>> m
 pub mod Asked

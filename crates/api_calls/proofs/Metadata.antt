@@ -1,7 +1,10 @@
 -- The interfaces and the address of a PUT of /mmds/config.
-use Rattle.std.proofs.Common.{◌≡◌, ℕ, true, false, List, [], Option, Some, None, refl}
+use Rattle.std.proofs.Common.{◌≡◌, ℕ, true, false, ◌&&◌, List, [], Option, Some, None, refl, ap}
 use Rattle.std.specs.Prelude.{codes, is_some, option_and_then, unwrap_or}
+use Rattle.std.specs.Str.{is_utf8}
 use Rattle.std.proofs.lemmas.Bool.{and_parts}
+use Rattle.std.proofs.lemmas.Str.{is_utf8-from_IsUtf8}
+use lib.Utf8.{encode}
 use Rattle.serde_json.specs.Data.{Data, null, boolean, number, string, array, object, Members}
 use Rattle.serde_json.specs.Find.{as_str, get}
 use Rattle.api_calls.specs.declared.test.Test.TheVariants as test
@@ -28,13 +31,21 @@ needed_ids (Some (string s)) there kind range = absurd cc
 needed_ids (Some (array ds)) there kind range = some_ids (texts_of ds) kind range
 needed_ids (Some (object ms)) there kind range = absurd cc
 
+-- the address where none is given
+default_is_text : is_utf8 default_address ≡ true
+unfolding encode
+default_is_text = is_utf8-from_IsUtf8 default_address (default_address, (refl, refl))
+
+default_is_address : is_address default_address ≡ true
+default_is_address = ap (λ b. b && true) default_is_text
+
 -- in one that need not
 optional_address : (g : Option Data) → holds (is_of_kind address) (option_and_then (unless_null false) g) ≡ true
     → holds (is_in_range address) (option_and_then (unless_null false) g) ≡ true
     → is_address (unwrap_or (option_and_then as_str g) default_address) ≡ true
 unfolding is_of_kind is_in_range
-optional_address None kind range = refl
-optional_address (Some null) kind range = refl
+optional_address None kind range = default_is_address
+optional_address (Some null) kind range = default_is_address
 optional_address (Some (boolean b)) kind range = absurd cc
 optional_address (Some (number n)) kind range = absurd cc
 optional_address (Some (string s)) kind range = range

@@ -1,9 +1,5 @@
 -- The numbers and texts of a machine and of what it boots, within their bounds.
-<<<<<<< 8bde38ab
 use Rattle.std.proofs.Common.{◌≡◌, ◌<◌, ◌≤◌, ◌^◌, ℕ, true, false, ◌&&◌, length, [], Option, Some, None, refl, arith}
-=======
-use Rattle.std.proofs.Common.{◌≡◌, ◌<◌, ◌≤◌, ◌^◌, ℕ, true, false, ◌&&◌, length, List, [], Option, Some, None, refl, arith}
->>>>>>> m
 use Rattle.std.specs.Prelude.{codes, is_some, nat_le, option_and_then, unwrap_or}
 use Rattle.std.specs.Str.{is_utf8}
 use Rattle.std.proofs.lemmas.Bool.{and_parts, leb-true}
@@ -12,11 +8,7 @@ use Rattle.serde_json.specs.Data.{Data, null, boolean, number, string, array, ob
 use Rattle.serde_json.specs.Find.{as_str, as_u64, get}
 use Rattle.api_calls.specs.declared.test.Test.TheVariants as test
 use Rattle.api_calls.specs.Form.{as_whole, holds, is_in_range, is_of_kind, is_path, number_at, object_passes, refusal, row_passes, text, text_at, unless_null, whole}
-<<<<<<< 8bde38ab
 use Rattle.api_calls.specs.Fields.{balloon, boot_source, machine_config, machine_patch, statistics_patch, vsock}
-=======
-use Rattle.api_calls.specs.Fields.{balloon, boot_source, machine_config, machine_patch, statistics_patch}
->>>>>>> m
 use Rattle.api_calls.specs.Call.{text_or_none}
 use Rattle.api_calls.proofs.Bodies.{passed, form_parts, file_path, optional_path, held}
 
@@ -144,7 +136,6 @@ machine_patch_is ms none =
           (and_parts _ _ (and_parts _ _ range).1).0,
     )
 
-<<<<<<< 8bde38ab
 abbrev pub IsVsock : Data → Type 0
 IsVsock d =
     IsWithin 3 4294967294 (unwrap_or (number_at (codes "guest_cid") d) 0)
@@ -162,8 +153,6 @@ vsock_is ms none =
           (and_parts _ _ (and_parts _ _ range).1).0,
     )
 
-=======
->>>>>>> m
 -- ---- a balloon's reports
 
 -- a number that need not be there, or zero

@@ -1,4 +1,3 @@
-<<<<<<< 8bde38ab
 -- Addresses as texts: that of a network device (VIRTIO 1.2, 5.1.4), and that of metadata in a guest's network.
 use Rattle.std.specs.Prelude.{ℕ, ◌+◌, ◌-◌, ◌*◌, ◌^◌, ◌==◌, nat_le, ◌&&◌, Bool, false, if◌then◌else◌, List, [], ◌∷◌, length, map, get_or, take, drop, codes, Option, Some, None, is_some}
 use Rattle.std.specs.Char.{is_ascii_hexdigit, to_ascii_lowercase}
@@ -8,12 +7,6 @@ use Rattle.script_words.specs.Numbers.{number_within}
 use Rattle.script_words.specs.Words.{behind}
 
 -- ---- of a network device
-=======
--- The address of a network device (VIRTIO 1.2, 5.1.4) as a text.
-use Rattle.std.specs.Prelude.{ℕ, ◌+◌, ◌-◌, ◌*◌, ◌^◌, ◌==◌, nat_le, ◌&&◌, Bool, true, false, if◌then◌else◌, List, [], ◌∷◌, length, map, get_or}
-use Rattle.std.specs.Char.{is_ascii_hexdigit, to_ascii_lowercase}
-use Rattle.std.specs.Str.{bytes_eq}
->>>>>>> m
 
 abbrev pub are_digits : ℕ → ℕ → Bool
 are_digits a b = is_ascii_hexdigit a && is_ascii_hexdigit b
@@ -53,7 +46,6 @@ abbrev pub mac_number : List ℕ → ℕ
 mac_number t =
     pair_at t 0 + 2 ^ 8 * pair_at t 3 + 2 ^ 16 * pair_at t 6 + 2 ^ 24 * pair_at t 9 + 2 ^ 32 * pair_at t 12
     + 2 ^ 40 * pair_at t 15
-<<<<<<< 8bde38ab
 
 -- ---- of metadata (RFC 3927, 2.1)
 
@@ -69,5 +61,3 @@ is_local (Some rest) = ends_at rest (position (λ b. b == 46) rest)
 -- 169.254.1.0 to 169.254.254.255
 abbrev pub is_metadata_address : List ℕ → Bool
 is_metadata_address t = is_local (behind (codes "169.254.") t)
-=======
->>>>>>> m

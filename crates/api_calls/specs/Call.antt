@@ -7,15 +7,10 @@ use Rattle.serde_json.specs.Read.{read}
 use Rattle.refusals.specs.declared.refusal.Refusal.{Refusal}
 use Rattle.refusals.specs.declared.refusal.Refusal.TheVariants as refused
 use Rattle.http_stream.specs.declared.request.Request.{Request}
-<<<<<<< 8bde38ab
 use Rattle.metadata_store.specs.declared.version.MetadataVersion.{MetadataVersion}
 use Rattle.metadata_store.specs.declared.version.MetadataVersion.TheVariants as versions
 use Rattle.api_calls.specs.Addresses.{lowered}
 use Rattle.api_calls.specs.Form.{refusal, text_at, texts_at, number_at, flag_at, object_at}
-=======
-use Rattle.api_calls.specs.Addresses.{lowered}
-use Rattle.api_calls.specs.Form.{refusal, text_at, number_at, flag_at, object_at}
->>>>>>> m
 use Rattle.api_calls.specs.Fields.{form_of}
 use Rattle.api_calls.specs.Routes.{target_of}
 use Rattle.api_calls.specs.declared.call.ApiCall.{ApiCall}
@@ -76,7 +71,6 @@ state_of d = if is_text (codes "Paused") (text_at (codes "state") d) then state.
 abbrev pub type_of : Data → SnapshotType
 type_of d = if is_text (codes "Diff") (text_at (codes "snapshot_type") d) then snapshot.Diff else snapshot.Full
 
-<<<<<<< 8bde38ab
 -- the first version, where nothing is said
 abbrev pub version_of : Data → MetadataVersion
 version_of d = if is_text (codes "V2") (text_at (codes "version") d) then versions.V2 else versions.V1
@@ -84,8 +78,6 @@ version_of d = if is_text (codes "V2") (text_at (codes "version") d) then versio
 abbrev pub default_address : List ℕ
 default_address = codes "169.254.169.254"
 
-=======
->>>>>>> m
 abbrev pub number_or_zero : Option ℕ → ℕ
 number_or_zero n = unwrap_or n 0
 
@@ -158,13 +150,10 @@ made body.InterfacePatch d = call.PatchInterface (record {
   iface_id = text_or_none (text_at (codes "iface_id") d);
   rx_rate_limiter = limiter_at (codes "rx_rate_limiter") d;
   tx_rate_limiter = limiter_at (codes "tx_rate_limiter") d;
-<<<<<<< 8bde38ab
 })
 made body.Vsock d = call.PutVsock (record {
   guest_cid = number_or_zero (number_at (codes "guest_cid") d);
   uds_path = text_or_none (text_at (codes "uds_path") d);
-=======
->>>>>>> m
 })
 made body.MachineConfig d = call.PutMachineConfig (record {
   vcpu_count = number_or_zero (number_at (codes "vcpu_count") d);
@@ -187,14 +176,11 @@ made body.BalloonPatch d = call.PatchBalloon (record {
 made body.StatisticsPatch d = call.PatchStatistics (record {
   stats_polling_interval_s = number_or_zero (number_at (codes "stats_polling_interval_s") d);
 })
-<<<<<<< 8bde38ab
 made body.MmdsConfig d = call.PutMmdsConfig (record {
   network_interfaces = unwrap_or (texts_at (codes "network_interfaces") d) [];
   version = version_of d;
   ipv4_address = unwrap_or (text_at (codes "ipv4_address") d) default_address;
 })
-=======
->>>>>>> m
 made body.Metadata d = call.PutMetadata d
 made body.MetadataPatch d = call.PatchMetadata d
 made body.Action d = call.InstanceStart

@@ -1,11 +1,7 @@
 -- The fields of each body, in the order of the API's table. What isn't built is not in it: a field is unknown
 -- then, and a value out of range.
 use Rattle.std.specs.Prelude.{ℕ, ◌-◌, ◌^◌, true, false, List, [], ◌∷◌, ◌++◌, codes}
-<<<<<<< 8bde38ab
 use Rattle.api_calls.specs.Form.{Kind, path, id, ids, mac, address, text, choice, whole, flag, unset, group, Row, Level, Together, free, some_of, either, differing, naming, Form}
-=======
-use Rattle.api_calls.specs.Form.{Kind, path, id, mac, text, choice, whole, flag, unset, group, Row, Level, Together, free, some_of, either, differing, naming, Form}
->>>>>>> m
 use Rattle.api_calls.specs.declared.endpoint.Body.{Body}
 use Rattle.api_calls.specs.declared.endpoint.Body.TheVariants as body
 
@@ -108,7 +104,6 @@ interface_patch named = record {
       ++ limiter_levels (codes "tx_rate_limiter");
   together = naming (codes "iface_id") named;
 }
-<<<<<<< 8bde38ab
 
 -- PUT /vsock: an id may be given, which is ignored, and is a text as long as a body may be
 abbrev pub vsock : Form
@@ -117,8 +112,6 @@ vsock = flat (
     ∷ needed (codes "uds_path") path
     ∷ optional (codes "vsock_id") (text 65536)
     ∷ []) free
-=======
->>>>>>> m
 
 -- PUT /machine-config: 1 to 32 harts, 4 to 1,024 MiB
 abbrev pub machine_config : Form
@@ -167,7 +160,6 @@ balloon_patch = flat (needed (codes "amount_mib") any_number ∷ []) free
 abbrev pub statistics_patch : Form
 statistics_patch = flat (needed (codes "stats_polling_interval_s") seconds ∷ []) free
 
-<<<<<<< 8bde38ab
 -- PUT /mmds/config
 abbrev pub mmds_config : Form
 mmds_config = flat (
@@ -176,8 +168,6 @@ mmds_config = flat (
     ∷ optional (codes "ipv4_address") address
     ∷ []) free
 
-=======
->>>>>>> m
 -- PUT and PATCH /mmds: of its fields nothing is asked here
 abbrev pub metadata : Form
 metadata = record { levels = []; together = free }
@@ -231,19 +221,13 @@ form_of body.Drive named = drive named
 form_of body.DrivePatch named = drive_patch named
 form_of body.Interface named = interface named
 form_of body.InterfacePatch named = interface_patch named
-<<<<<<< 8bde38ab
 form_of body.Vsock named = vsock
-=======
->>>>>>> m
 form_of body.MachineConfig named = machine_config
 form_of body.MachinePatch named = machine_patch
 form_of body.Balloon named = balloon
 form_of body.BalloonPatch named = balloon_patch
 form_of body.StatisticsPatch named = statistics_patch
-<<<<<<< 8bde38ab
 form_of body.MmdsConfig named = mmds_config
-=======
->>>>>>> m
 form_of body.Metadata named = metadata
 form_of body.MetadataPatch named = metadata
 form_of body.Action named = action

@@ -3,42 +3,25 @@ use Rattle.std.specs.Prelude.{ℕ, ◌&&◌, ◌||◌, ◌==◌, Bool, true, fal
 use Rattle.std.specs.List.{list_any, list_all, find}
 use Rattle.std.specs.Char.{is_ascii_alphanumeric}
 use Rattle.std.specs.Str.{bytes_eq, is_utf8}
-<<<<<<< 8bde38ab
 use Rattle.serde_json.specs.Data.{Data, null, boolean, number, string, array, object, Items, no_items, item, Members, no_members, member}
 use Rattle.serde_json.specs.Find.{get, as_array, as_object, as_null, as_bool, as_str, as_number, as_u64}
 use Rattle.refusals.specs.declared.refusal.Refusal.{Refusal}
 use Rattle.refusals.specs.declared.refusal.Refusal.TheVariants as refused
 use Rattle.api_calls.specs.Addresses.{is_mac, is_metadata_address}
-=======
-use Rattle.serde_json.specs.Data.{Data, null, boolean, number, string, array, object, Members, no_members, member}
-use Rattle.serde_json.specs.Find.{get, as_object, as_null, as_bool, as_str, as_number, as_u64}
-use Rattle.refusals.specs.declared.refusal.Refusal.{Refusal}
-use Rattle.refusals.specs.declared.refusal.Refusal.TheVariants as refused
-use Rattle.api_calls.specs.Addresses.{is_mac}
->>>>>>> m
 use Rattle.api_calls.specs.declared.test.Test.{Test}
 use Rattle.api_calls.specs.declared.test.Test.TheVariants as test
 
 -- ---- tables
 
-<<<<<<< 8bde38ab
 -- What a field's value must be: the name of a file; the id of a thing; 1 to 16 ids; an address of a network device; an
 -- address of metadata; a text of at most so many bytes; one of these texts; a whole number, at least and at most; a flag; a flag that must not be set; an object,
-=======
--- What a field's value must be: the name of a file; the id of a thing; an address of a network device; a text of at most
--- so many bytes; one of these texts; a whole number, at least and at most; a flag; a flag that must not be set; an object,
->>>>>>> m
 -- whose fields have a level of their own.
 pub data Kind : Type 0 where
   path : Kind
   id : Kind
-<<<<<<< 8bde38ab
   ids : Kind
   mac : Kind
   address : Kind
-=======
-  mac : Kind
->>>>>>> m
   text : ℕ → Kind
   choice : List (List ℕ) → Kind
   whole : ℕ → ℕ → Kind
@@ -141,13 +124,9 @@ is_known rows name = list_any (λ row. bytes_eq row.name name) rows
 unfoldable pub is_of_kind : Kind → Data → Bool
 is_of_kind path d = is_some (as_str d)
 is_of_kind id d = is_some (as_str d)
-<<<<<<< 8bde38ab
 is_of_kind ids d = is_some (as_texts d)
 is_of_kind mac d = is_some (as_str d)
 is_of_kind address d = is_some (as_str d)
-=======
-is_of_kind mac d = is_some (as_str d)
->>>>>>> m
 is_of_kind (text most) d = is_some (as_str d)
 is_of_kind (choice texts) d = is_some (as_str d)
 is_of_kind (whole least most) d = is_some (as_whole d)
@@ -189,13 +168,9 @@ are_ids ts = nat_lt 0 (length ts) && nat_le (length ts) most_ids && list_all is_
 unfoldable pub is_in_range : Kind → Data → Bool
 is_in_range path d = holds is_path (as_str d)
 is_in_range id d = holds is_id (as_str d)
-<<<<<<< 8bde38ab
 is_in_range ids d = holds are_ids (as_texts d)
 is_in_range mac d = holds is_mac (as_str d)
 is_in_range address d = holds is_address (as_str d)
-=======
-is_in_range mac d = holds is_mac (as_str d)
->>>>>>> m
 is_in_range (text most) d = holds (is_short_text most) (as_str d)
 is_in_range (choice texts) d = holds (λ t. list_any (λ c. bytes_eq c t) texts) (as_str d)
 is_in_range (whole least most) d = holds (λ n. nat_le least n && nat_le n most) (as_whole d)

@@ -33,19 +33,13 @@ routes =
     ∷ route_in (codes "PATCH") (codes "/drives/") (endpoint.Send body.DrivePatch)
     ∷ route_in (codes "PUT") (codes "/network-interfaces/") (endpoint.Send body.Interface)
     ∷ route_in (codes "PATCH") (codes "/network-interfaces/") (endpoint.Send body.InterfacePatch)
-<<<<<<< 8bde38ab
     ∷ route (codes "PUT") (codes "/vsock") (endpoint.Send body.Vsock)
-=======
->>>>>>> m
     ∷ route (codes "PUT") (codes "/machine-config") (endpoint.Send body.MachineConfig)
     ∷ route (codes "PATCH") (codes "/machine-config") (endpoint.Send body.MachinePatch)
     ∷ route (codes "PUT") (codes "/balloon") (endpoint.Send body.Balloon)
     ∷ route (codes "PATCH") (codes "/balloon") (endpoint.Send body.BalloonPatch)
     ∷ route (codes "PATCH") (codes "/balloon/statistics") (endpoint.Send body.StatisticsPatch)
-<<<<<<< 8bde38ab
     ∷ route (codes "PUT") (codes "/mmds/config") (endpoint.Send body.MmdsConfig)
-=======
->>>>>>> m
     ∷ route (codes "PUT") (codes "/mmds") (endpoint.Send body.Metadata)
     ∷ route (codes "PATCH") (codes "/mmds") (endpoint.Send body.MetadataPatch)
     ∷ route (codes "PUT") (codes "/actions") (endpoint.Send body.Action)

@@ -4,11 +4,8 @@ ghost use Rattle.std.specs.Prelude.{◌≡◌};
 use crate::balloon::{Balloon, BalloonPatch, StatisticsPatch};
 use crate::interface::{Interface, InterfacePatch};
 use crate::limiter::Limiter;
-<<<<<<< 8bde38ab
 use crate::mmds::MmdsConfig;
 use crate::vsock::Vsock;
-=======
->>>>>>> m
 use metadata_store::Tree;
 use vm_types::TextList;
 
@@ -164,11 +161,8 @@ pub enum ApiCall {
     PutInterface(Interface),
     /// PATCH /network-interfaces/{id}
     PatchInterface(InterfacePatch),
-<<<<<<< 8bde38ab
     /// PUT /vsock
     PutVsock(Vsock),
-=======
->>>>>>> m
     /// PUT /machine-config
     PutMachineConfig(MachineConfig),
     /// PATCH /machine-config
@@ -179,11 +173,8 @@ pub enum ApiCall {
     PatchBalloon(BalloonPatch),
     /// PATCH /balloon/statistics
     PatchStatistics(StatisticsPatch),
-<<<<<<< 8bde38ab
     /// PUT /mmds/config
     PutMmdsConfig(MmdsConfig),
-=======
->>>>>>> m
     /// PUT /mmds: an object, whose numbers may be any.
     PutMetadata(Tree),
     /// PATCH /mmds: an object, whose numbers may be any.

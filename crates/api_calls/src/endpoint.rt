@@ -9,19 +9,13 @@ pub enum Body {
     DrivePatch,
     Interface,
     InterfacePatch,
-<<<<<<< 8bde38ab
     Vsock,
-=======
->>>>>>> m
     MachineConfig,
     MachinePatch,
     Balloon,
     BalloonPatch,
     StatisticsPatch,
-<<<<<<< 8bde38ab
     MmdsConfig,
-=======
->>>>>>> m
     Metadata,
     MetadataPatch,
     Action,

@@ -14,15 +14,10 @@ ghost use Rattle.api_calls.specs.declared.call.SnapshotCreate.{SnapshotCreate};
 ghost use Rattle.api_calls.specs.declared.call.SnapshotLoad.{SnapshotLoad};
 ghost use Rattle.api_calls.specs.declared.interface.Interface.{Interface};
 ghost use Rattle.api_calls.specs.declared.interface.InterfacePatch.{InterfacePatch};
-<<<<<<< 8bde38ab
 ghost use Rattle.api_calls.specs.declared.mmds.MmdsConfig.{MmdsConfig};
 ghost use Rattle.api_calls.specs.declared.vsock.Vsock.{Vsock};
 ghost use Rattle.api_calls.specs.Addresses.{is_small_mac};
 ghost use Rattle.api_calls.specs.Form.{are_ids, holds, is_address, is_id, is_path};
-=======
-ghost use Rattle.api_calls.specs.Addresses.{is_small_mac};
-ghost use Rattle.api_calls.specs.Form.{holds, is_id, is_path};
->>>>>>> m
 ghost use Rattle.api_calls.specs.Limits.{is_limiter};
 ghost use Rattle.api_calls.specs.Call.{call_of};
 
@@ -69,15 +64,12 @@ pub fn limits_are_bounded()
         (holds is_limiter patch.rx_rate_limiter ≡ true) × (holds is_limiter patch.tx_rate_limiter ≡ true) }
 {}
 
-<<<<<<< 8bde38ab
 /// The CID of a vsock device is from 3 to 2^32 - 2, and its socket has a name of 1 to 4,095 bytes without a NUL.
 pub fn sockets_are_named()
     ensures { (r : Request) (vsock : Vsock) → call_of r ≡ Ok (call.PutVsock vsock) →
         (3 ≤ vsock.guest_cid) × (vsock.guest_cid ≤ 4294967294) × (is_path vsock.uds_path ≡ true) }
 {}
 
-=======
->>>>>>> m
 /// A balloon's reports have fewer than 2^16 seconds between them.
 pub fn reports_are_near()
     ensures put { (r : Request) (balloon : Balloon) → call_of r ≡ Ok (call.PutBalloon balloon) →
@@ -86,7 +78,6 @@ pub fn reports_are_near()
         patch.stats_polling_interval_s < 2 ^ 16 }
 {}
 
-<<<<<<< 8bde38ab
 /// Metadata are given at interfaces by their ids, of which there are 1 to 16, and at an address from 169.254.1.0 to
 /// 169.254.254.255.
 pub fn metadata_have_a_place()
@@ -94,8 +85,6 @@ pub fn metadata_have_a_place()
         (are_ids mmds.network_interfaces ≡ true) × (is_address mmds.ipv4_address ≡ true) }
 {}
 
-=======
->>>>>>> m
 /// What a machine boots: files by names of 1 to 4,095 bytes without a NUL, the second of which may be left out, and at most
 /// 2,048 bytes of arguments, in UTF-8.
 pub fn sources_are_short()

@@ -2,7 +2,6 @@
 //!
 //! `specs/Routes.antt` has the paths and their methods, `specs/Fields.antt` the fields of each body, and
 //! `specs/Form.antt` what is asked of fields and which refusal comes first. `specs/Call.antt` puts them together:
-<<<<<<< 8bde38ab
 //! the call that a request is, or its first refusal. But for `CacheType::text`, tests of addresses and lists of ids there is no body here:
 //! `api_json` reads requests by these tables, and the flat machine cites them. `specs/Drives.antt`, `specs/Interfaces.antt` and
 //! `specs/Limits.antt` say of a drive, of an interface and of limits what others need too.
@@ -17,33 +16,16 @@ mod interface;
 mod law;
 mod limiter;
 mod mmds;
-=======
-//! the call that a request is, or its first refusal. But for `CacheType::text` there is no body here: `api_json` reads
-//! requests by these tables, and the flat machine cites them. `specs/Drives.antt`, `specs/Interfaces.antt` and
-//! `specs/Limits.antt` say of a drive, of an interface and of limits what others need too.
-#![tactic(auto)]
-
-mod balloon;
-mod call;
-mod endpoint;
-mod interface;
-mod law;
-mod limiter;
->>>>>>> m
 mod test;
 mod vsock;
 
-<<<<<<< 8bde38ab
 pub use addresses::{is_mac, is_metadata_address};
-=======
->>>>>>> m
 pub use balloon::{Balloon, BalloonPatch, StatisticsPatch};
 pub use call::{
     ApiCall, BootSource, CacheType, Drive, DrivePatch, MachineConfig, MachinePatch, Part,
     SnapshotCreate, SnapshotFiles, SnapshotLoad, SnapshotType, VmState,
 };
 pub use endpoint::{Body, Endpoint};
-<<<<<<< 8bde38ab
 pub use id_list::IdList;
 pub use interface::{Interface, InterfacePatch};
 pub use law::{
@@ -52,13 +34,5 @@ pub use law::{
 };
 pub use limiter::{BucketConfig, Limiter};
 pub use mmds::MmdsConfig;
-=======
-pub use interface::{Interface, InterfacePatch};
-pub use law::{
-    drives_are_named, interfaces_are_named, limits_are_bounded, machines_are_in_range,
-    paths_differ, reports_are_near, sources_are_short,
-};
-pub use limiter::{BucketConfig, Limiter};
->>>>>>> m
 pub use test::Test;
 pub use vsock::Vsock;

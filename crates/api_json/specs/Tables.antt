@@ -3,11 +3,7 @@ use Rattle.std.specs.Prelude.{map}
 use Rattle.api_calls.specs.Form as form
 use Rattle.api_calls.specs.Routes as routes
 use Rattle.api_json.specs.declared.form.Kind.{Kind}
-<<<<<<< 8bde38ab
 use Rattle.api_json.specs.declared.form.Kind.TheVariants.{Path, Id, Ids, Mac, Address, Text, Choice, Whole, Flag, Unset, Group}
-=======
-use Rattle.api_json.specs.declared.form.Kind.TheVariants.{Path, Id, Mac, Text, Choice, Whole, Flag, Unset, Group}
->>>>>>> m
 use Rattle.api_json.specs.declared.form.Row.{Row}
 use Rattle.api_json.specs.declared.levels.Level.{Level}
 use Rattle.api_json.specs.declared.levels.Together.{Together}
@@ -21,13 +17,9 @@ use Rattle.api_json.specs.declared.routes.Target.{Target}
 abbrev pub kind_of : Kind → form.Kind
 kind_of Path = form.path
 kind_of Id = form.id
-<<<<<<< 8bde38ab
 kind_of Ids = form.ids
 kind_of Mac = form.mac
 kind_of Address = form.address
-=======
-kind_of Mac = form.mac
->>>>>>> m
 kind_of (Text most) = form.text most
 kind_of (Choice texts) = form.choice (map (λ t. t.now) texts.now)
 kind_of (Whole least most) = form.whole least most

@@ -7,13 +7,8 @@ ghost use Rattle.serde_json.specs.View.{view};
 ghost use Rattle.api_calls.specs.Form as form;
 ghost use Rattle.api_json.specs.Tables.{row_of, kind_of};
 
-<<<<<<< 8bde38ab
 use crate::ids::{are_ids, are_texts, is_id_text};
 use api_calls::{Test, is_mac, is_metadata_address};
-=======
-use crate::addresses::is_mac;
-use api_calls::Test;
->>>>>>> m
 use serde_json::{Map, Value};
 
 const LONGEST_PATH: usize = 4095;
@@ -29,17 +24,12 @@ pub enum Kind {
     Path,
     /// The id of a thing: 1 to 64 letters and digits of ASCII, and `_`.
     Id,
-<<<<<<< 8bde38ab
     /// A list of 1 to 16 ids.
     Ids,
     /// The address of a network device: six pairs of hexadecimal digits with colons between.
     Mac,
     /// The address of metadata: from 169.254.1.0 to 169.254.254.255.
     Address,
-=======
-    /// The address of a network device: six pairs of hexadecimal digits with colons between.
-    Mac,
->>>>>>> m
     /// A text of at most so many bytes.
     Text(usize),
     /// One of these texts.
@@ -123,15 +113,12 @@ fn is_short_text(most: usize, text: &str) -> bool
     ensures { result ≡ form.is_short_text most text.now }
 {
     is_within(most, text)
-<<<<<<< 8bde38ab
 }
 
 fn is_address(text: &str) -> bool
     ensures { result ≡ form.is_address text.now }
 {
     is_short_text(LONGEST_ADDRESS, text) && is_metadata_address(text.as_bytes())
-=======
->>>>>>> m
 }
 
 fn is_id_byte(byte: u8) -> bool
@@ -158,13 +145,9 @@ fn is_of_kind(kind: &Kind, value: &Value) -> bool
     ensures { result ≡ form.is_of_kind (kind_of kind.now) (view value.now) }
 {
     match kind {
-<<<<<<< 8bde38ab
         Kind::Path | Kind::Id | Kind::Mac | Kind::Address | Kind::Text(_) | Kind::Choice(_) =>
             value.is_string(),
         Kind::Ids => are_texts(value),
-=======
-        Kind::Path | Kind::Id | Kind::Mac | Kind::Text(_) | Kind::Choice(_) => value.is_string(),
->>>>>>> m
         Kind::Whole(_, _) => value.is_u64(),
         Kind::Flag | Kind::Unset => value.is_boolean(),
         Kind::Group => value.is_object(),
@@ -200,10 +183,6 @@ fn is_in_range(kind: &Kind, value: &Value) -> bool
         },
         Kind::Address => match value.as_str() {
             Some(text) => is_address(text),
-            None => true,
-        },
-        Kind::Mac => match value.as_str() {
-            Some(text) => is_mac(text.as_bytes()),
             None => true,
         },
         Kind::Text(most) => match value.as_str() {

@@ -1,5 +1,6 @@
 // Lists of ids in a body.
-ghost use Rattle.std.specs.Prelude.{◌≡◌, IfOk, [], is_some, true, unwrap_or};
+ghost use Rattle.std.specs.Prelude.{◌≡◌, IfOk, [], ◌&&◌, is_some, length, nat_le, nat_lt, true, unwrap_or};
+ghost use Rattle.std.specs.List.{list_all};
 ghost use Rattle.serde_json.specs.Find.{as_str};
 ghost use Rattle.serde_json.specs.View.{items_view, view};
 ghost use Rattle.api_calls.specs.Form as form;
@@ -10,11 +11,16 @@ use serde_json::Value;
 use std::alloc::{AllocError, Global};
 use vm_types::TextList;
 
-#[tactic(auto, using(crate::proofs::IdLemmas::all_texts))]
+fn all_strings(items: &[Value]) -> bool
+    ensures { result ≡ list_all (λ v. is_some (as_str (view v))) items.now }
+{
+    items.iter().all(|item| item.is_string())
+}
+
 fn are_strings(items: &[Value]) -> bool
     ensures { result ≡ is_some (form.texts_of (items_view items.now)) }
 {
-    items.iter().all(|item| item.is_string())
+    all_strings(items)
 }
 
 /// Whether a value is a list of texts.
@@ -40,13 +46,25 @@ pub fn is_id_text(value: &Value) -> bool
 // A machine has no more devices.
 const MOST_IDS: usize = 16;
 
+fn all_ids(items: &[Value]) -> bool
+    ensures { result ≡ list_all (λ v. form.holds form.is_id (as_str (view v))) items.now }
+{
+    items.iter().all(|item| is_id_text(item))
+}
+
 // Whether all texts in a list are ids, and there is one, and no more than there may be.
-#[tactic(auto, using(crate::proofs::IdLemmas::ids_all))]
+fn are_few_ids(items: &[Value]) -> bool
+    ensures { result ≡ (nat_lt 0 (length items.now) && nat_le (length items.now) form.most_ids
+        && list_all (λ v. form.holds form.is_id (as_str (view v))) items.now) }
+{
+    !items.is_empty() && items.len() <= MOST_IDS && all_ids(items)
+}
+
 fn are_ids_in(items: &[Value]) -> bool
     requires { is_some (form.texts_of (items_view items.now)) ≡ true }
     ensures { result ≡ form.holds form.are_ids (form.texts_of (items_view items.now)) }
 {
-    !items.is_empty() && items.len() <= MOST_IDS && items.iter().all(|item| is_id_text(item))
+    are_few_ids(items)
 }
 
 /// Whether the texts in a list are ids, as many as there may be.
@@ -60,7 +78,6 @@ pub fn are_ids(value: &Value) -> bool
     }
 }
 
-#[tactic(auto, using(crate::proofs::IdLemmas::texts_map))]
 fn copied(alloc: Global, items: &[Value]) -> Result<IdList, AllocError>
     ensures { IfOk result (λ ids. ids ≡ unwrap_or (form.texts_of (items_view items.now)) []) }
 {

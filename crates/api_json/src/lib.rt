@@ -27,24 +27,18 @@ mod drives;
 // PUT and PATCH /network-interfaces/{id},
 mod interfaces;
 
-<<<<<<< 8bde38ab
 // PUT /vsock,
 mod vsock;
 
-=======
->>>>>>> m
 // PUT and PATCH /machine-config,
 mod machine_config;
 
 // PUT and PATCH /balloon, PATCH /balloon/statistics,
 mod balloon;
 
-<<<<<<< 8bde38ab
 // PUT /mmds/config,
 mod mmds;
 
-=======
->>>>>>> m
 // PUT and PATCH /mmds,
 mod metadata;
 

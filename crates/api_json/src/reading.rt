@@ -18,10 +18,7 @@ use crate::mmds::{self, MMDS_CONFIG};
 use crate::routes::target_of;
 use crate::snapshot::{self, SNAPSHOT_CREATE, SNAPSHOT_LOAD};
 use crate::vm::{VM_STATE, state_of};
-<<<<<<< 8bde38ab
 use crate::vsock::{self, VSOCK};
-=======
->>>>>>> m
 use crate::{drives, interfaces};
 use api_calls::{ApiCall, Body, Endpoint};
 use http_stream::Request;
@@ -39,19 +36,13 @@ fn form_of(body: Body, id: &[u8]) -> Form<'_>
         Body::DrivePatch => drives::patch_form(id),
         Body::Interface => interfaces::put_form(id),
         Body::InterfacePatch => interfaces::patch_form(id),
-<<<<<<< 8bde38ab
         Body::Vsock => VSOCK,
-=======
->>>>>>> m
         Body::MachineConfig => MACHINE_CONFIG,
         Body::MachinePatch => MACHINE_PATCH,
         Body::Balloon => BALLOON,
         Body::BalloonPatch => BALLOON_PATCH,
         Body::StatisticsPatch => STATISTICS_PATCH,
-<<<<<<< 8bde38ab
         Body::MmdsConfig => MMDS_CONFIG,
-=======
->>>>>>> m
         Body::Metadata | Body::MetadataPatch => METADATA,
         Body::Action => ACTION,
         Body::VmState => VM_STATE,
@@ -69,19 +60,13 @@ fn make(alloc: Global, body: Body, object: Value) -> Result<ApiCall, AllocError>
         Body::DrivePatch => drives::patch(alloc, &object),
         Body::Interface => interfaces::put(alloc, &object),
         Body::InterfacePatch => interfaces::patch(alloc, &object),
-<<<<<<< 8bde38ab
         Body::Vsock => vsock::put(alloc, &object),
-=======
->>>>>>> m
         Body::MachineConfig => Ok(machine_config::put(&object)),
         Body::MachinePatch => Ok(machine_config::patch(&object)),
         Body::Balloon => Ok(balloon::put(&object)),
         Body::BalloonPatch => Ok(balloon::patch(&object)),
         Body::StatisticsPatch => Ok(balloon::patch_statistics(&object)),
-<<<<<<< 8bde38ab
         Body::MmdsConfig => mmds::put(alloc, &object),
-=======
->>>>>>> m
         Body::Metadata => Ok(ApiCall::PutMetadata(Tree::of_value(object))),
         Body::MetadataPatch => Ok(ApiCall::PatchMetadata(Tree::of_value(object))),
         Body::Action => Ok(ApiCall::InstanceStart),

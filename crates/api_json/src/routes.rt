@@ -34,11 +34,7 @@ pub struct Target<'p> {
     pub id: &'p [u8],
 }
 
-<<<<<<< 8bde38ab
-static ROUTES: [Route; 24] = [
-=======
-static ROUTES: [Route; 23] = [
->>>>>>> m
+static ROUTES: [Route; 25] = [
     Route {
         pattern: Pattern::Fixed("/boot-source"),
         method: "PUT",
@@ -65,14 +61,11 @@ static ROUTES: [Route; 23] = [
         endpoint: Endpoint::Send(Body::InterfacePatch),
     },
     Route {
-<<<<<<< 8bde38ab
         pattern: Pattern::Fixed("/vsock"),
         method: "PUT",
         endpoint: Endpoint::Send(Body::Vsock),
     },
     Route {
-=======
->>>>>>> m
         pattern: Pattern::Fixed("/machine-config"),
         method: "PUT",
         endpoint: Endpoint::Send(Body::MachineConfig),
@@ -98,14 +91,11 @@ static ROUTES: [Route; 23] = [
         endpoint: Endpoint::Send(Body::StatisticsPatch),
     },
     Route {
-<<<<<<< 8bde38ab
         pattern: Pattern::Fixed("/mmds/config"),
         method: "PUT",
         endpoint: Endpoint::Send(Body::MmdsConfig),
     },
     Route {
-=======
->>>>>>> m
         pattern: Pattern::Fixed("/mmds"),
         method: "PUT",
         endpoint: Endpoint::Send(Body::Metadata),

@@ -24,18 +24,12 @@ accepted (change.PutDrive drive) told = no_content
 accepted (change.PatchDrive patch) told = no_content
 accepted (change.PutInterface interface) told = no_content
 accepted (change.PatchInterface patch) told = no_content
-<<<<<<< 8bde38ab
 accepted (change.PutVsock vsock) told = no_content
-=======
->>>>>>> m
 accepted (change.MachineConfig machine) told = no_content
 accepted (change.PutBalloon balloon) told = no_content
 accepted (change.PatchBalloon patch) told = no_content
 accepted (change.PatchStatistics patch) told = no_content
-<<<<<<< 8bde38ab
 accepted (change.MmdsConfig mmds) told = no_content
-=======
->>>>>>> m
 accepted (change.PutMetadata body) told = no_content
 accepted (change.PatchMetadata patch) told = no_content
 accepted change.Start told = no_content

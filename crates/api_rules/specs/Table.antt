@@ -1,10 +1,6 @@
 -- Which calls are allowed: the API's table, row by row, without the checks of bodies, which come before.
 use Rattle.std.specs.Prelude.{ℕ, ◌^◌, ◌==◌, nat_le, nat_lt, Bool, true, false, not, ◌&&◌, ◌||◌, if◌then◌else◌, List, [], ◌∷◌, Option, Some, None, is_none, unwrap_or, Result, Ok, Err}
-<<<<<<< 8bde38ab
 use Rattle.std.specs.List.{list_all, list_any}
-=======
-use Rattle.std.specs.List.{list_any}
->>>>>>> m
 use Rattle.guest_memory.specs.Boot.{loads_fit}
 use Rattle.refusals.specs.declared.refusal.Refusal.{Refusal}
 use Rattle.refusals.specs.declared.refusal.Refusal.TheVariants as refusal
@@ -23,10 +19,7 @@ use Rattle.api_calls.specs.declared.call.Part.{Part}
 use Rattle.api_calls.specs.declared.call.Part.TheVariants as tells
 use Rattle.api_calls.specs.declared.interface.Interface.{Interface}
 use Rattle.api_calls.specs.declared.interface.InterfacePatch.{InterfacePatch}
-<<<<<<< 8bde38ab
 use Rattle.api_calls.specs.declared.mmds.MmdsConfig.{MmdsConfig}
-=======
->>>>>>> m
 use Rattle.vm_config.specs.Devices.{device_count}
 use Rattle.vm_config.specs.Drives.{has_drive, is_named, is_root}
 use Rattle.vm_config.specs.Interfaces.{has_interface}
@@ -59,19 +52,13 @@ when_allowed (call.PutDrive drive) = BeforeBoot
 when_allowed (call.PatchDrive patch) = AfterBoot
 when_allowed (call.PutInterface interface) = BeforeBoot
 when_allowed (call.PatchInterface patch) = AfterBoot
-<<<<<<< 8bde38ab
 when_allowed (call.PutVsock vsock) = BeforeBoot
-=======
->>>>>>> m
 when_allowed (call.PutMachineConfig machine) = BeforeBoot
 when_allowed (call.PatchMachineConfig patch) = BeforeBoot
 when_allowed (call.PutBalloon balloon) = BeforeBoot
 when_allowed (call.PatchBalloon patch) = AfterBoot
 when_allowed (call.PatchStatistics patch) = AfterBoot
-<<<<<<< 8bde38ab
 when_allowed (call.PutMmdsConfig mmds) = BeforeBoot
-=======
->>>>>>> m
 when_allowed (call.PutMetadata body) = Always
 when_allowed (call.PatchMetadata patch) = Always
 when_allowed call.InstanceStart = BeforeBoot
@@ -134,13 +121,10 @@ interface_rows config interface =
 abbrev pub interface_patch_rows : Config → InterfacePatch → Rows
 interface_patch_rows config patch = (not (has_interface config.interfaces patch.iface_id), refusal.NoSuchId) ∷ []
 
-<<<<<<< 8bde38ab
 -- a machine has one at most
 abbrev pub vsock_rows : Config → Rows
 vsock_rows config = (is_none config.vsock && has_no_room config, refusal.TooManyDevices) ∷ []
 
-=======
->>>>>>> m
 -- a guest gives what it has at most
 abbrev pub is_beyond : ℕ → ℕ → Bool
 is_beyond mib amount = nat_lt mib amount
@@ -195,13 +179,10 @@ told_rows config tells.Statistics =
     ∷ (not (is_on (interval_of config.balloon)), refusal.StatisticsOff)
     ∷ []
 
-<<<<<<< 8bde38ab
 -- metadata are given at interfaces that are there
 abbrev pub mmds_rows : Config → MmdsConfig → Rows
 mmds_rows config mmds = (not (list_all (has_interface config.interfaces) mmds.network_interfaces), refusal.NoSuchId) ∷ []
 
-=======
->>>>>>> m
 abbrev pub start_rows : Config → Rows
 start_rows config = (is_none config.boot_source, refusal.NoBootSource) ∷ []
 
@@ -227,19 +208,13 @@ own_rows p config ids (call.PutDrive drive) = drive_rows config drive
 own_rows p config ids (call.PatchDrive patch) = drive_patch_rows config patch
 own_rows p config ids (call.PutInterface interface) = interface_rows config interface
 own_rows p config ids (call.PatchInterface patch) = interface_patch_rows config patch
-<<<<<<< 8bde38ab
 own_rows p config ids (call.PutVsock vsock) = vsock_rows config
-=======
->>>>>>> m
 own_rows p config ids (call.PutMachineConfig machine) = memory_rows config machine.mem_size_mib
 own_rows p config ids (call.PatchMachineConfig patch) = memory_rows config (patched config.machine patch).mem_size_mib
 own_rows p config ids (call.PutBalloon balloon) = balloon_rows config balloon
 own_rows p config ids (call.PatchBalloon patch) = balloon_patch_rows config patch
 own_rows p config ids (call.PatchStatistics patch) = statistics_patch_rows config patch
-<<<<<<< 8bde38ab
 own_rows p config ids (call.PutMmdsConfig mmds) = mmds_rows config mmds
-=======
->>>>>>> m
 own_rows p config ids (call.PutMetadata body) = []
 own_rows p config ids (call.PatchMetadata patch) = []
 own_rows p config ids call.InstanceStart = start_rows config
@@ -263,19 +238,13 @@ change_of config (call.PutDrive drive) = change.PutDrive drive
 change_of config (call.PatchDrive patch) = change.PatchDrive patch
 change_of config (call.PutInterface interface) = change.PutInterface interface
 change_of config (call.PatchInterface patch) = change.PatchInterface patch
-<<<<<<< 8bde38ab
 change_of config (call.PutVsock vsock) = change.PutVsock vsock
-=======
->>>>>>> m
 change_of config (call.PutMachineConfig machine) = change.MachineConfig machine
 change_of config (call.PatchMachineConfig patch) = change.MachineConfig (patched config.machine patch)
 change_of config (call.PutBalloon balloon) = change.PutBalloon balloon
 change_of config (call.PatchBalloon patch) = change.PatchBalloon patch
 change_of config (call.PatchStatistics patch) = change.PatchStatistics patch
-<<<<<<< 8bde38ab
 change_of config (call.PutMmdsConfig mmds) = change.MmdsConfig mmds
-=======
->>>>>>> m
 change_of config (call.PutMetadata body) = change.PutMetadata body
 change_of config (call.PatchMetadata patch) = change.PatchMetadata patch
 change_of config call.InstanceStart = change.Start

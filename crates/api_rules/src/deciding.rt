@@ -6,11 +6,7 @@ use crate::actions::start_refusal;
 use crate::ids::Ids;
 use crate::machine_config::{memory_refusal, patch_refusal, patched};
 use crate::snapshot::{create_refusal, load_refusal};
-<<<<<<< 8bde38ab
 use crate::{balloon, drives, interfaces, mmds, vsock};
-=======
-use crate::{balloon, drives, interfaces};
->>>>>>> m
 use api_calls::{ApiCall, Part};
 use refusals::Refusal;
 use vm_config::{Change, Config, Phase};
@@ -44,17 +40,11 @@ fn when_allowed(call: &ApiCall) -> When
         ApiCall::PutBootSource(_)
         | ApiCall::PutDrive(_)
         | ApiCall::PutInterface(_)
-<<<<<<< 8bde38ab
         | ApiCall::PutVsock(_)
         | ApiCall::PutMachineConfig(_)
         | ApiCall::PatchMachineConfig(_)
         | ApiCall::PutBalloon(_)
         | ApiCall::PutMmdsConfig(_)
-=======
-        | ApiCall::PutMachineConfig(_)
-        | ApiCall::PatchMachineConfig(_)
-        | ApiCall::PutBalloon(_)
->>>>>>> m
         | ApiCall::InstanceStart
         | ApiCall::LoadSnapshot(_) => When::BeforeBoot,
         ApiCall::PatchDrive(_)
@@ -86,19 +76,13 @@ fn own_refusal(phase: Phase, config: &Config, ids: &Ids, call: &ApiCall) -> Opti
         ApiCall::PatchDrive(patch) => drives::patch_refusal(config, patch),
         ApiCall::PutInterface(interface) => interfaces::put_refusal(config, interface),
         ApiCall::PatchInterface(patch) => interfaces::patch_refusal(config, patch),
-<<<<<<< 8bde38ab
         ApiCall::PutVsock(_) => vsock::put_refusal(config),
-=======
->>>>>>> m
         ApiCall::PutMachineConfig(machine) => memory_refusal(config, machine.mem_size_mib),
         ApiCall::PatchMachineConfig(patch) => patch_refusal(config, patch),
         ApiCall::PutBalloon(balloon) => balloon::put_refusal(config, balloon),
         ApiCall::PatchBalloon(patch) => balloon::patch_refusal(config, patch),
         ApiCall::PatchStatistics(patch) => balloon::statistics_refusal(config, patch),
-<<<<<<< 8bde38ab
         ApiCall::PutMmdsConfig(mmds) => mmds::put_refusal(config, mmds),
-=======
->>>>>>> m
         ApiCall::Get(part) => balloon::told_refusal(config, *part),
         ApiCall::InstanceStart => start_refusal(config),
         ApiCall::CreateSnapshot(create) => create_refusal(phase, config, ids, create.snapshot_type),
@@ -116,10 +100,7 @@ fn change_of(config: &Config, call: ApiCall) -> Change
         ApiCall::PatchDrive(patch) => Change::PatchDrive(patch),
         ApiCall::PutInterface(interface) => Change::PutInterface(interface),
         ApiCall::PatchInterface(patch) => Change::PatchInterface(patch),
-<<<<<<< 8bde38ab
         ApiCall::PutVsock(vsock) => Change::PutVsock(vsock),
-=======
->>>>>>> m
         ApiCall::PutMachineConfig(machine) => Change::MachineConfig(machine),
         ApiCall::PatchMachineConfig(patch) => {
             Change::MachineConfig(patched(&config.machine, &patch))
@@ -127,10 +108,7 @@ fn change_of(config: &Config, call: ApiCall) -> Change
         ApiCall::PutBalloon(balloon) => Change::PutBalloon(balloon),
         ApiCall::PatchBalloon(patch) => Change::PatchBalloon(patch),
         ApiCall::PatchStatistics(patch) => Change::PatchStatistics(patch),
-<<<<<<< 8bde38ab
         ApiCall::PutMmdsConfig(mmds) => Change::MmdsConfig(mmds),
-=======
->>>>>>> m
         ApiCall::PutMetadata(body) => Change::PutMetadata(body),
         ApiCall::PatchMetadata(patch) => Change::PatchMetadata(patch),
         ApiCall::InstanceStart => Change::Start,

@@ -15,24 +15,18 @@ mod drives;
 // PUT and PATCH /network-interfaces/{id},
 mod interfaces;
 
-<<<<<<< 8bde38ab
 // PUT /vsock,
 mod vsock;
 
-=======
->>>>>>> m
 // PUT and PATCH /machine-config,
 mod machine_config;
 
 // PUT, GET and PATCH /balloon, GET and PATCH /balloon/statistics,
 mod balloon;
 
-<<<<<<< 8bde38ab
 // PUT /mmds/config,
 mod mmds;
 
-=======
->>>>>>> m
 // PUT /actions,
 mod actions;
 

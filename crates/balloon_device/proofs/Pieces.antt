@@ -10,11 +10,8 @@ use Rattle.vq_split.specs.Inside.{AreInside}
 use Rattle.dev_core.specs.Inside.{Any}
 use Rattle.dev_core.specs.Pieces.{past, place, room, total}
 use Rattle.dev_core.proofs.Inside.{past_inside, piece_inside}
-<<<<<<< 8bde38ab
 use Rattle.dev_core.proofs.Totals.{room_few, total_past}
 use Rattle.dev_core.proofs.Fuel.{if_else, none_of, same_else, some_of}
-=======
->>>>>>> m
 use Rattle.queue_device.specs.Confined.{IsDeviceAct}
 use Rattle.balloon_device.specs.Balloon.{no_call}
 use Rattle.balloon_device.specs.Pieces.{read_all, read_most}

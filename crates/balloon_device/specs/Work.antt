@@ -162,14 +162,6 @@ IsSizedData sized e = sized ≡ true → IsSmallData e
 -- what is kept where this is left
 abbrev pub BalloonKept : ℕ → ℕ → Script (Queued Balloon) → Type 0
 BalloonKept port pages t = HasKept balloon hand_of is_work AnyBalloon false true port pages t
-<<<<<<< 8bde38ab
-=======
-
--- and where each reply was small, each number of which has its width
-abbrev pub BalloonNarrow : ℕ → ℕ → Script (Queued Balloon) → Type 0
-BalloonNarrow port pages t =
-    HasKept balloon (sized_hand true) (is_sized_work true) (IsSizedData true) true true port pages t
->>>>>>> m
 
 -- how the reading of parts begins
 abbrev pub first_of : List Part → Begin

@@ -12,16 +12,11 @@ ghost use Rattle.queue_device.specs.Kept.{is_state};
 ghost use Rattle.queue_device.specs.Lanes.{new_lane};
 ghost use Rattle.queue_device.specs.Left.{left_at, queued};
 ghost use Rattle.queue_device.specs.Service.{Queued};
-<<<<<<< 8bde38ab
-=======
-ghost use Rattle.queue_device.specs.Sizes.{IsReplyTo, IsSmallWrite};
->>>>>>> m
 ghost use Rattle.queue_device.specs.Timing.{is_timed_left};
 ghost use Rattle.balloon_device.specs.declared.kind.BalloonChange.{BalloonChange};
-ghost use Rattle.balloon_device.specs.declared.kind.BalloonChange.TheVariants.{Interval};
 ghost use Rattle.balloon_device.specs.declared.kind.Stage.{Stage};
 ghost use Rattle.balloon_device.specs.Balloon.{Balloon, balloon, balloon_rules, new_balloon, no_call};
-ghost use Rattle.balloon_device.specs.Work.{BalloonKept, BalloonNarrow, hand_of, is_work};
+ghost use Rattle.balloon_device.specs.Work.{BalloonKept, hand_of, is_work};
 ghost use Rattle.balloon_device.specs.Statistics.{no_statistics};
 ghost use Rattle.balloon_device.specs.Sequences.{broken_lane, broken_list, finish, none_inflated, one_deflated, one_inflated};
 ghost use Rattle.balloon_device.specs.Sequences.{own_of, split_inflated, start, total_memory, until_its_time, until_sooner};
@@ -65,20 +60,6 @@ pub fn balloon_goes_on()
 {
     queue_goes_on::<BalloonKind>();
 }
-
-/// Where each reply is small, each number of what is kept has its width, from a balloon on that has done nothing and whose interval has
-/// 16 bits; and what it writes are bytes.
-pub fn balloon_is_narrow()
-    ensures begins { (port pages interval : ℕ) → pages ≤ 2 ^ 20 → interval < 2 ^ 16 →
-        BalloonNarrow port pages (Ends (new_balloon port pages interval)) }
-    ensures reply { (port pages : ℕ) (t : Script (Queued Balloon)) (reply : Reply) → pages ≤ 2 ^ 20 →
-        BalloonNarrow port pages t → IsReplyTo true (wants balloon_rules t) reply →
-        BalloonNarrow port pages (stepped balloon_rules t reply) }
-    ensures change { (port pages seconds : ℕ) (t : Script (Queued Balloon)) → pages ≤ 2 ^ 20 → seconds < 2 ^ 16 →
-        BalloonNarrow port pages t → BalloonNarrow port pages (changed_at balloon_rules (Interval seconds) t) }
-    ensures writes { (port pages : ℕ) (t : Script (Queued Balloon)) → pages ≤ 2 ^ 20 →
-        BalloonNarrow port pages t → IsSmallWrite (wants balloon_rules t) }
-{}
 
 /// A page that is listed is zeroed, by 64 writes; one whose number ends in a later piece is zeroed behind that piece; one outside
 /// RAM is skipped; and a list that ends inside a number is broken, and not read. Deflating gives the chain back. A chain of

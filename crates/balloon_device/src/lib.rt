@@ -13,10 +13,6 @@ mod valid;
 
 pub use device::BalloonDevice;
 pub use kind::{BalloonChange, BalloonKind, Stage};
-<<<<<<< 8bde38ab
 pub use law::{balloon_does, balloon_goes_on, balloon_kept, balloon_stays};
-=======
-pub use law::{balloon_does, balloon_goes_on, balloon_is_narrow, balloon_kept, balloon_stays};
->>>>>>> m
 pub use new_balloon::{NewBalloon, configuration};
 pub use statistics::Statistics;

@@ -1,17 +1,9 @@
 -- What the service of a request begins with.
-<<<<<<< 8bde38ab
 use Rattle.std.proofs.Common.{◌≡◌, ℕ, ◌+◌, ◌-◌, ◌/◌, ◌%◌, ◌^◌, ◌==◌, ◌<◌, ◌≤◌, ◌&&◌, not, nat_le, refl, Bool, true, [], length, arith}
 use Rattle.std.proofs.lemmas.List.Elements.{All-nil}
 use Rattle.std.proofs.lemmas.Bool.{and_parts}
 use Rattle.le_fields.specs.Fields.{IsByte, field_at}
 use Rattle.vq_split.specs.Inside.{AreInside}
-=======
-use Rattle.std.proofs.Common.{◌≡◌, ℕ, ◌+◌, ◌*◌, ◌-◌, ◌/◌, ◌%◌, ◌^◌, ◌==◌, ◌<◌, ◌≤◌, ◌&&◌, not, nat_le, refl, Bool, true, false, if◌then◌else◌, List, [], ◌∷◌, length, arith}
-use Rattle.std.proofs.lemmas.List.Elements.{All-nil}
-use Rattle.le_fields.specs.Fields.{IsByte, field_at}
-use Rattle.vq_split.specs.Inside.{AreInside}
-use Rattle.vq_split.proofs.Inside.{both}
->>>>>>> m
 use Rattle.dev_core.specs.Collecting.{nothing}
 use Rattle.block_device.specs.declared.stage.ServiceStage.TheVariants as stage
 use Rattle.block_device.specs.Service.{Request, behind_header, io_error, is_range, kind_flush, kind_get_id, kind_in, kind_out, served_as, served_id, served_in, served_out, service, unsupported}

@@ -1,10 +1,5 @@
 -- Where a reply leads the service of a request: to a stage with what it holds, or to the end.
-<<<<<<< 8bde38ab
 use Rattle.std.proofs.Common.{◌≡◌, ℕ, zero, suc, ◌+◌, ◌-◌, ◌/◌, ◌%◌, ◌^◌, ◌==◌, ◌<◌, ◌≤◌, ◌||◌, refl, sym, ap, subst, Bool, true, false, if◌then◌else◌, List, [], ◌++◌, length, length-append, length-drop, drop, arith, ◌⊎◌, inl, inr}
-=======
-use Rattle.std.proofs.Common.{◌≡◌, ℕ, zero, suc, ◌+◌, ◌-◌, ◌/◌, ◌%◌, ◌^◌, ◌==◌, ◌<◌, ◌≤◌, ◌||◌, refl, sym, ap, subst, Bool, true, false, if◌then◌else◌, List, [], ◌∷◌, ◌++◌, length, length-append, length-drop, drop, arith, ◌⊎◌, inl, inr}
-use Rattle.std.specs.List.{All}
->>>>>>> m
 use Rattle.std.proofs.lemmas.Bool.{eqb-true}
 use Rattle.std.proofs.lemmas.List.Elements.{All-append, All-drop, All-nil}
 use Rattle.vm_types.specs.declared.op.Op.TheVariants.{Out}
@@ -23,11 +18,7 @@ use Rattle.dev_core.proofs.Fuel.{bytes_fit, collect_done, collect_led, put_done,
 use Rattle.dev_core.proofs.Inside.{past_inside}
 use Rattle.queue_device.specs.Chains.{got_of}
 use Rattle.queue_device.specs.Sizes.{IsReplyTo}
-<<<<<<< 8bde38ab
 use Rattle.queue_device.proofs.Pieces.{more_of, past_few, read_small, room_most}
-=======
-use Rattle.queue_device.proofs.Pieces.{is_some_of, more_of, past_few, read_small, room_most}
->>>>>>> m
 use Rattle.block_device.specs.declared.stage.ServiceStage.{ServiceStage}
 use Rattle.block_device.specs.declared.stage.ServiceStage.TheVariants as stage
 use Rattle.block_device.specs.Service.{behind_unit, done_by, done_status, id_put, io_error, ok, read_by, sector_of, status_written, unit_written, units_in, units_out, used_of}
@@ -54,12 +45,6 @@ pub record Serves (sized : Bool) (pages at : ℕ) (t : Doing ℕ) : Type 0 where
 -- or its used length
 abbrev pub ServesOn : Bool → ℕ → ℕ → Doing ℕ → Type 0
 ServesOn sized pages at t = Serves sized pages at t ⊎ ((used : ℕ) × (t ≡ Gives used) × (sized ≡ true → used < 2 ^ 32))
-<<<<<<< 8bde38ab
-=======
-
-eq_of : (n m : ℕ) → (n == m) ≡ true → n ≡ m
-eq_of n m is = grind arith
->>>>>>> m
 
 apart_of : (n m : ℕ) → (n == m) ≡ false → n ≤ m → n < m
 apart_of n m is most = grind arith
@@ -161,7 +146,7 @@ module _ (sized : Bool) (pages at : ℕ) where
     stage = stage.Put sector unit more;
     from = record { from = []; held = held };
     to = to;
-    is = (within, refl, is_some_of (share held to) test, below);
+    is = (within, refl, some_of (share held to) test, below);
     placed = (tt, inside);
     few = few;
     fewer = omega arith;
@@ -188,7 +173,7 @@ module _ (sized : Bool) (pages at : ℕ) where
     stage = stage.PutId;
     from = record { from = []; held = held };
     to = to;
-    is = (refl, is_some_of (share held to) test);
+    is = (refl, some_of (share held to) test);
     placed = (tt, inside);
     few = few;
     fewer = omega arith;
@@ -248,11 +233,7 @@ module _ (sized : Bool) (pages at : ℕ) where
       → IsWithin sector part (suc more) → ArePart pages got.parts
       → Serves sized pages at (units_out (suc more) (part + 1) sector at got)
   next_part true more part sector got test bytes below within inside =
-<<<<<<< 8bde38ab
       let is = eqb-true part 7 test in
-=======
-      let is = eq_of part 7 test in
->>>>>>> m
       moved (units_out (suc more) 0 (sector + 1) at got) _ (out_wrapped (suc more) part sector at got is)
       (gathers_on (suc more) 0 (sector + 1) got bytes (omega arith) (omega (arith, within.units))
       (omega (arith, is, within.inside)) inside)

@@ -1,19 +1,10 @@
 -- The test of what a block device keeps in a chain, and what it tests.
-<<<<<<< 8bde38ab
 use Rattle.std.proofs.Common.{◌≡◌, ℕ, ◌+◌, ◌/◌, ◌^◌, ◌==◌, ◌≤◌, ◌&&◌, nat_le, nat_lt, refl, ap, ◌∙◌, true, List, [], ◌∷◌, length, arith}
 use Rattle.std.proofs.lemmas.Bool.{and_from, and_parts, le-leb, leb-true, lt-ltb, ltb-true}
 use Rattle.vq_split.specs.declared.queue.Part.{Part}
 use Rattle.vq_split.specs.Inside.{AreInside}
 use Rattle.vq_split.specs.Kept.{are_inside}
 use Rattle.vq_split.proofs.Kept.{are_of, inside_of}
-=======
-use Rattle.std.proofs.Common.{◌≡◌, ℕ, ◌+◌, ◌/◌, ◌^◌, ◌==◌, ◌<◌, ◌≤◌, ◌&&◌, nat_le, nat_lt, refl, ap, ◌∙◌, true, List, [], ◌∷◌, length, arith}
-use Rattle.vq_split.specs.declared.queue.Part.{Part}
-use Rattle.vq_split.specs.Inside.{AreInside}
-use Rattle.vq_split.specs.Kept.{are_inside}
-use Rattle.vq_split.proofs.Inside.{both}
-use Rattle.vq_split.proofs.Kept.{all, are_of, inside_of}
->>>>>>> m
 use Rattle.dev_core.specs.declared.collect.Collect.{Collect}
 use Rattle.dev_core.specs.Collecting.{nothing}
 use Rattle.dev_core.specs.Pieces.{room, share}
@@ -118,24 +109,14 @@ test_of_stage (stage.Status status used) from to is = test_of_clear from to is
 pub at_of : (s : BlockStage) (from : Collect) (to : List Part) → is_at s from to ≡ true → IsAt s from to
 at_of at.Rest from to is = clear_of from to is
 at_of at.Header from to is =
-<<<<<<< 8bde38ab
     let h = and_parts (nat_lt (length from.held) 16 && nat_lt 0 (room from.from)) (nat_lt 0 (length to)) is in
     let g = and_parts (nat_lt (length from.held) 16) (nat_lt 0 (room from.from)) h.0 in
     (ltb-true _ _ g.0, ltb-true _ _ g.1, ltb-true _ _ h.1)
-=======
-    let h = both (nat_lt (length from.held) 16 && nat_lt 0 (room from.from)) (nat_lt 0 (length to)) is in
-    let g = both (nat_lt (length from.held) 16) (nat_lt 0 (room from.from)) h.0 in
-    (less_of _ _ g.0, less_of _ _ g.1, less_of _ _ h.1)
->>>>>>> m
 at_of (at.Serve status s) from to is = stage_of s from to is
 
 test_of_at : (s : BlockStage) (from : Collect) (to : List Part) → IsAt s from to → is_at s from to ≡ true
 test_of_at at.Rest from to is = test_of_clear from to is
-<<<<<<< 8bde38ab
 test_of_at at.Header from to is = and_from _ _ (and_from _ _ (lt-ltb _ _ is.0) (lt-ltb _ _ is.1)) (lt-ltb _ _ is.2)
-=======
-test_of_at at.Header from to is = all _ _ (all _ _ (is_less _ _ is.0) (is_less _ _ is.1)) (is_less _ _ is.2)
->>>>>>> m
 test_of_at (at.Serve status s) from to is = test_of_stage s from to is
 
 -- parts inside RAM, at most 256 of them
@@ -144,19 +125,11 @@ ArePart pages parts = AreInside pages parts × (length parts ≤ 256)
 
 placed_of : (pages : ℕ) (parts : List Part) → are_placed pages parts ≡ true → ArePart pages parts
 placed_of pages parts is =
-<<<<<<< 8bde38ab
     let h = and_parts (are_inside pages parts) (nat_le (length parts) 256) is in
     (inside_of pages parts h.0, leb-true _ _ h.1)
 
 test_of_placed : (pages : ℕ) (parts : List Part) → ArePart pages parts → are_placed pages parts ≡ true
 test_of_placed pages parts is = and_from _ _ (are_of pages parts is.0) (le-leb _ _ is.1)
-=======
-    let h = both (are_inside pages parts) (nat_le (length parts) 256) is in
-    (inside_of pages parts h.0, most_of _ _ h.1)
-
-test_of_placed : (pages : ℕ) (parts : List Part) → ArePart pages parts → are_placed pages parts ≡ true
-test_of_placed pages parts is = all _ _ (are_of pages parts is.0) (is_most _ _ is.1)
->>>>>>> m
 
 pub record IsWork (w : Work) (pages : ℕ) (b : Working) : Type 0 where
   pub of : is_of w b.stage ≡ true
@@ -167,17 +140,10 @@ pub record IsWork (w : Work) (pages : ℕ) (b : Working) : Type 0 where
 
 pub work_of : (w : Work) (pages : ℕ) (b : Working) → is_work w pages b ≡ true → IsWork w pages b
 work_of w pages b test =
-<<<<<<< 8bde38ab
     let p3 = and_parts _ (are_placed pages b.to) test in
     let p2 = and_parts _ (are_placed pages b.from.from) p3.0 in
     let p1 = and_parts _ (has_place pages b.stage) p2.0 in
     let p0 = and_parts (is_of w b.stage) (is_at b.stage b.from b.to) p1.0 in
-=======
-    let p3 = both _ (are_placed pages b.to) test in
-    let p2 = both _ (are_placed pages b.from.from) p3.0 in
-    let p1 = both _ (has_place pages b.stage) p2.0 in
-    let p0 = both (is_of w b.stage) (is_at b.stage b.from b.to) p1.0 in
->>>>>>> m
     record {
       of = p0.0;
       is = at_of b.stage b.from b.to p0.1;
@@ -188,12 +154,7 @@ work_of w pages b test =
 
 pub test_of_work : (w : Work) (pages : ℕ) (b : Working) → IsWork w pages b → is_work w pages b ≡ true
 test_of_work w pages b it =
-<<<<<<< 8bde38ab
     and_from _ _
     (and_from _ _ (and_from _ _ (and_from _ _ it.of (test_of_at b.stage b.from b.to it.is)) it.place)
-=======
-    all _ _
-    (all _ _ (all _ _ (all _ _ it.of (test_of_at b.stage b.from b.to it.is)) it.place)
->>>>>>> m
     (test_of_placed pages b.from.from it.from))
     (test_of_placed pages b.to it.to)

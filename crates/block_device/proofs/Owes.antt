@@ -1,10 +1,6 @@
 -- All that a block device owes.
-<<<<<<< 8bde38ab
 use Rattle.std.proofs.Common.{◌≡◌, ℕ, ◌^◌, ◌<◌, ◌==◌, nat_lt, inr, true, false, not, Option, Some, List, [], length, arith}
 use Rattle.std.proofs.lemmas.Bool.{or_parts}
-=======
-use Rattle.std.proofs.Common.{◌≡◌, ℕ, ◌^◌, ◌<◌, ◌==◌, ◌||◌, nat_lt, inr, Bool, true, false, not, Option, Some, List, [], length, arith}
->>>>>>> m
 use Rattle.device_trace.specs.Acts.{is_disk_call}
 use Rattle.device_trace.specs.Traces.{setting}
 use Rattle.device_trace.proofs.Leading.{no_cut}
@@ -24,13 +20,6 @@ use Rattle.block_device.specs.Block.{block, changed, headed, is_short, request_o
 use Rattle.block_device.specs.Service.{service}
 use Rattle.block_device.proofs.Asking.{service_acts}
 
-<<<<<<< 8bde38ab
-=======
-pub off_right : (a b : Bool) → (a || b) ≡ false → b ≡ false
-off_right true b off = cc
-off_right false b off = off
-
->>>>>>> m
 pub some_parts : (n : ℕ) → (n == 0) ≡ false → nat_lt 0 n ≡ true
 some_parts n is = grind arith
 
@@ -55,11 +44,7 @@ module _ (port pages : ℕ) (k : Which) where
       (λ f got from few. (
         filter_inside pages (λ (part : Part). part.writable) parts (inside few),
         from few,
-<<<<<<< 8bde38ab
         some_parts (length (writable parts)) (or_parts _ _ on).1,
-=======
-        some_parts (length (writable parts)) (off_right _ _ on),
->>>>>>> m
       )))
 
   serve : (t : Taken) (e : BlockData) → (pages < 2 ^ 32 → IsTaken block pages k (Some t))

@@ -1,23 +1,13 @@
 -- What a block device owes of what is kept of it.
-<<<<<<< 8bde38ab
 use Rattle.std.proofs.Common.{◌≡◌, ℕ, ◌-◌, ◌^◌, ◌<◌, ◌≤◌, ◌==◌, ◌||◌, nat_lt, refl, sym, ap, subst, inl, inr, Bool, true, false, if◌then◌else◌, Option, Some, IfSome, option_map, List, [], length, arith}
 use Rattle.std.specs.List.{All}
 use Rattle.std.proofs.lemmas.List.Elements.{All-append, All-nil}
 use Rattle.std.proofs.lemmas.Bool.{lt-ltb, ltb-true, or_parts}
-=======
-use Rattle.std.proofs.Common.{◌≡◌, ℕ, ◌+◌, ◌-◌, ◌*◌, ◌^◌, ◌<◌, ◌≤◌, ◌==◌, ◌||◌, nat_lt, refl, sym, ap, subst, inl, inr, Bool, true, false, if◌then◌else◌, Option, Some, IfSome, option_map, List, [], length, arith}
-use Rattle.std.specs.List.{All}
-use Rattle.std.proofs.lemmas.List.Elements.{All-append, All-nil}
->>>>>>> m
 use Rattle.vm_types.specs.declared.reply.Reply.{Reply}
 use Rattle.vm_types.specs.Fits.{Fits}
 use Rattle.device_trace.specs.Acts.{is_disk_call}
 use Rattle.device_trace.specs.Doing.{Doing, led}
 use Rattle.device_trace.specs.Traces.{setting}
-<<<<<<< 8bde38ab
-=======
-use Rattle.device_trace.proofs.Keeping.{keeps_both}
->>>>>>> m
 use Rattle.le_fields.specs.Fields.{IsByte, field_at}
 use Rattle.vq_split.specs.declared.queue.Part.{Part}
 use Rattle.vq_split.specs.Chain.{is_inside}
@@ -30,10 +20,6 @@ use Rattle.dev_core.proofs.Fuel.{collect_done}
 use Rattle.dev_core.proofs.Inside.{filter_inside, status_place}
 use Rattle.rate_gate.specs.Gate.{Buckets, gate_passes}
 use Rattle.queue_device.specs.declared.lanes.Which.{Which}
-<<<<<<< 8bde38ab
-=======
-use Rattle.queue_device.specs.declared.lanes.Which.TheVariants.{First, Second, Third}
->>>>>>> m
 use Rattle.queue_device.specs.declared.phase.Work.{Work}
 use Rattle.queue_device.specs.declared.phase.Work.TheVariants as work
 use Rattle.queue_device.specs.Acting.{Acting, ActingKeeps, Comes, performing}
@@ -42,11 +28,7 @@ use Rattle.queue_device.specs.Confined.{IsChain, IsDeviceAct}
 use Rattle.queue_device.specs.Left.{Hand}
 use Rattle.queue_device.specs.Resuming.{Goes, IsShortChain, IsShortTaken, Resumes, answering_of, serving_of, taking_of}
 use Rattle.queue_device.specs.Sizes.{IsLength, IsReplyTo}
-<<<<<<< 8bde38ab
 use Rattle.queue_device.proofs.Acting.{led_keeps, performing_acts, performing_keeps}
-=======
-use Rattle.queue_device.proofs.Acting.{keeps_when, led_keeps, performing_acts, performing_keeps}
->>>>>>> m
 use Rattle.queue_device.proofs.Never.{never}
 use Rattle.queue_device.proofs.PieceActs.{collect_acts}
 use Rattle.queue_device.proofs.Pieces.{collect_asks, collect_next, filter_few, more_of, read_small, total_most}
@@ -56,11 +38,7 @@ use Rattle.block_device.specs.declared.work.BlockStage.TheVariants as at
 use Rattle.block_device.specs.Block.{block, changed, data_in, data_out, headed, is_short, need_of, request_of, served, taken}
 use Rattle.block_device.specs.Kept.{is_work}
 use Rattle.block_device.specs.Service.{kind_out, service}
-<<<<<<< 8bde38ab
 use Rattle.block_device.specs.Serving.{serving_left}
-=======
-use Rattle.block_device.specs.Serving.{serving_left, serving_op}
->>>>>>> m
 use Rattle.rate_gate.specs.Small.{AreSmallLimits}
 use Rattle.block_device.specs.Working.{IsFine, IsSizedData, IsSmallWork, SizedWork, Working, hand_of, sized_hand}
 use Rattle.block_device.proofs.Asking.{serving_acts}
@@ -68,11 +46,7 @@ use Rattle.block_device.proofs.GoesOnBegin.{service_on}
 use Rattle.block_device.proofs.GoesOnServe.{Serves, ServesOn, serves_on}
 use Rattle.block_device.proofs.Kept.{ArePart, test_of_work, work_of}
 use Rattle.rate_gate.proofs.SmallLimits.{limits_pass}
-<<<<<<< 8bde38ab
 use Rattle.block_device.proofs.Owes.{Taking, none_not, some_parts}
-=======
-use Rattle.block_device.proofs.Owes.{Taking, none_not, off_right, some_parts}
->>>>>>> m
 use Rattle.block_device.proofs.Wanting.{serving_asks}
 
 abbrev works : (sized : Bool) → Work → ℕ → SizedWork sized → Bool
@@ -81,15 +55,6 @@ works sized w n g = is_work w n g.work
 abbrev kept : BlockStage → Collect → List Part → Working
 kept stage from to = record { stage = stage; from = from; to = to }
 
-<<<<<<< 8bde38ab
-=======
-less_parts : (n : ℕ) → nat_lt 0 n ≡ true → 0 < n
-less_parts n is = grind arith
-
-more_parts : (n : ℕ) → 0 < n → nat_lt 0 n ≡ true
-more_parts n is = grind arith
-
->>>>>>> m
 -- ---- what is left keeps to its own
 
 module _ (port pages : ℕ) (k : Which) where
@@ -109,11 +74,7 @@ module _ (port pages : ℕ) (k : Which) where
         λ e reply fit. performing_keeps (IsDeviceAct false is_disk_call port pages)
             (λ (got : Got). pages < 2 ^ 32 → AreInside pages got.parts) (Taking pages k)
             (led (collect_left 16 from) reply) e _ (on.1 reply fit)
-<<<<<<< 8bde38ab
             (λ f got held few. (v.to.0, held few, lt-ltb 0 (length to) v.is.2)),
-=======
-            (λ f got held few. (v.to.0, held few, more_parts (length to) v.is.2)),
->>>>>>> m
       )
 
   serving_by : (stage : BlockStage) (from : Collect) (to : List Part)
@@ -174,11 +135,7 @@ module _ (sized : Bool) (pages : ℕ) (k : Which) where
             test_of_work (work.Take k) pages (kept at.Header from to)
             (record {
               of = refl;
-<<<<<<< 8bde38ab
               is = (more.0, more.1, ltb-true 0 (length to) some);
-=======
-              is = (more.0, more.1, less_parts (length to) some);
->>>>>>> m
               place = refl;
               from = reads;
               to = writes;
@@ -203,11 +160,7 @@ module _ (sized : Bool) (pages : ℕ) (k : Which) where
       read_on (record { from = readable parts; held = [] }) (writable parts) e fine
       (filter_inside pages _ parts inside, omega (arith, reads, few))
       (filter_inside pages _ parts inside, omega (arith, writes, few))
-<<<<<<< 8bde38ab
       (some_parts (length (writable parts)) (or_parts _ _ is).1) (omega arith) (λ yes. All-nil IsByte)
-=======
-      (some_parts (length (writable parts)) (off_right _ _ is)) (omega arith) (λ yes. All-nil IsByte)
->>>>>>> m
 
   take : (parts : List Part) (e : BlockData) → IsSizedData sized e → AreInside pages parts → length parts ≤ 256
       → Takes (taken parts e)
@@ -224,11 +177,7 @@ module _ (sized : Bool) (pages : ℕ) (k : Which) where
       let v = work_of (work.Take k) pages (kept at.Header from to) is in
       let next = collect_next 16 pages from reply small v.is.0 v.is.1 v.from.0 v.from.1 fit.0 in
       subst (λ (t : Doing Got). Takes (reading t to e)) next.left
-<<<<<<< 8bde38ab
       (read_on next.now to e fine (next.inside, next.few) v.to (lt-ltb 0 (length to) v.is.2) (omega (arith, next.most))
-=======
-      (read_on next.now to e fine (next.inside, next.few) v.to (more_parts (length to) v.is.2) (omega (arith, next.most))
->>>>>>> m
       (λ yes. subst (All IsByte) (sym next.held_is)
       (All-append IsByte from.held _ (bytes yes) (read_small (room from.from) reply (fit.1 yes)))))
 

@@ -1,10 +1,6 @@
 -- Where the work of a block device leads.
 use Rattle.std.proofs.Common.{◌≡◌, ℕ, ◌+◌, ◌-◌, ◌<◌, ◌≤◌, nat_lt, refl, sym, ap, subst, ◌∙◌, Bool, true, false, if◌then◌else◌, Option, Some, None, List, [], ◌||◌, ◌==◌, length, arith}
-<<<<<<< 8bde38ab
 use Rattle.std.proofs.lemmas.Bool.{le-ltb, lt-ltb}
-=======
-use Rattle.vm_types.specs.declared.op.Op.{Op}
->>>>>>> m
 use Rattle.vm_types.specs.declared.op.Op.TheVariants.{Read}
 use Rattle.vm_types.specs.declared.reply.Reply.{Reply}
 use Rattle.device_trace.specs.Doing.{Doing, Gives, led}
@@ -72,21 +68,9 @@ short_by : (t : Taken) (e : BlockData) (x : Acting BlockData (Option ℕ)) → n
     → (if nat_lt (length t.got.bytes) 16 then Comes e None else x) ≡ Comes e None
 short_by t e x is = rw is refl
 
-<<<<<<< 8bde38ab
 pub served_short : (t : Taken) (e : BlockData) → length t.got.bytes < 16 → served t e ≡ Comes e None
 unfolding served
 served_short t e short = short_by t e _ (lt-ltb (length t.got.bytes) 16 short)
-=======
-is_long : (n : ℕ) → 16 ≤ n → nat_lt n 16 ≡ false
-is_long n long = grind arith
-
-few_bytes : (n : ℕ) → n < 16 → nat_lt n 16 ≡ true
-few_bytes n short = grind arith
-
-pub served_short : (t : Taken) (e : BlockData) → length t.got.bytes < 16 → served t e ≡ Comes e None
-unfolding served
-served_short t e short = short_by t e _ (few_bytes (length t.got.bytes) short)
->>>>>>> m
 
 -- with this stage the service of a chain begins
 pub served_acts : (t : Taken) (e : BlockData) (place data_out : ℕ) (s : ServiceStage) (from : Collect) (to : List Part)
@@ -99,11 +83,7 @@ unfolding served
 served_acts t e place data_out s from to long there out begins is =
     let left = begins (request_of t e) refl refl refl refl refl refl (sym out) in
     long_by false t e (performing (service (request_of t e)) e (λ f used. Comes f (Some used)))
-<<<<<<< 8bde38ab
-    (le-ltb 16 (length t.got.bytes) long) refl
-=======
-    (is_long (length t.got.bytes) long) refl
->>>>>>> m
+    (le-ltb (length t.got.bytes) 16 long) refl
     ∙ subst (λ (p : ℕ). performing (service (request_of t e)) e (λ f used. Comes f (Some used))
     ≡ Acts e (serving_op s from to p) (serving_at (at.Serve p s) from to)) (sym there)
     (serve_acts (service (request_of t e)) (last_byte 0 t.parts) s from to e left is)

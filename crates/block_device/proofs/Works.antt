@@ -1,11 +1,6 @@
 -- What a block device is at behind an act, as the test of it.
-<<<<<<< 8bde38ab
 use Rattle.std.proofs.Common.{◌≡◌, ℕ, ◌^◌, ◌<◌, ◌≤◌, ◌==◌, ◌&&◌, nat_lt, refl, sym, ap, subst, ◌∙◌, true, Some, List, length, arith}
 use Rattle.std.proofs.lemmas.Bool.{and_from, and_parts, lt-ltb}
-=======
-use Rattle.std.proofs.Common.{◌≡◌, ℕ, ◌+◌, ◌^◌, ◌<◌, ◌≤◌, ◌==◌, ◌&&◌, nat_lt, refl, sym, ap, subst, ◌∙◌, true, Some, List, [], length, arith}
-use Rattle.std.proofs.lemmas.Bool.{and_from, and_parts}
->>>>>>> m
 use Rattle.vq_split.specs.declared.queue.Part.{Part}
 use Rattle.vq_split.specs.Inside.{AreInside}
 use Rattle.vq_split.specs.Kept.{are_inside, is_sound}
@@ -32,15 +27,6 @@ use Rattle.block_device.proofs.Owes.{none_not}
 abbrev pub kept : BlockStage → Collect → List Part → Working
 kept stage from to = record { stage = stage; from = from; to = to }
 
-<<<<<<< 8bde38ab
-=======
-some_of : (n : ℕ) → nat_lt 0 n ≡ true → 0 < n
-some_of n is = grind arith
-
-some_is : (n : ℕ) → 0 < n → nat_lt 0 n ≡ true
-some_is n is = grind arith
-
->>>>>>> m
 -- a list of parts is never longer
 abbrev pub AreFew : Collect → List Part → Type 0
 AreFew from to = (length from.from ≤ 256) × (length to ≤ 256)
@@ -67,11 +53,7 @@ module _ (pages : ℕ) (k : Which) where
   pub header_whole : (from : Collect) (to : List Part) → AreInside pages from.from → AreInside pages to → 0 < length to
       → is_fit block pages k (Some (record { parts = to; got = got_of from })) ≡ true
   header_whole from to reads writes some =
-<<<<<<< 8bde38ab
       and_from _ _ (and_from _ _ (are_of pages to writes) (are_of pages from.from reads)) (lt-ltb 0 (length to) some)
-=======
-      and_from _ _ (and_from _ _ (are_of pages to writes) (are_of pages from.from reads)) (some_is (length to) some)
->>>>>>> m
 
   pub header_more : (from : Collect) (to : List Part) → AreInside pages from.from → AreInside pages to → 0 < length to
       → (length from.held < 16) × (0 < room from.from) → AreFew from to

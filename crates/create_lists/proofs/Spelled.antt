@@ -22,11 +22,7 @@ use Rattle.snap_state.proofs.Copies.{accepted}
 use Rattle.snapshot_merge.specs.Bases.{base_found, base_read, base_sized}
 use Rattle.snapshot_merge.specs.Memories.{Holds, IsMemoryFile}
 use Rattle.flat_snapshot.specs.Found.{memory_found, memory_front, memory_judged, memory_read, state_found, state_read}
-<<<<<<< 8bde38ab
 use Rattle.flat_snapshot.proofs.Finds.{holds, passes, both}
-=======
-use Rattle.flat_snapshot.proofs.Finds.{holds, not_false, passes, both}
->>>>>>> m
 use Rattle.flat_snapshot.proofs.Loaded.{same_when}
 
 -- the copy of a memory file with this header

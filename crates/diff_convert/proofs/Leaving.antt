@@ -1,8 +1,9 @@
 -- What a convert leaves, by what each of its parts did.
-use Rattle.std.proofs.Common.{◌≡◌, ℕ, ◌*◌, ◌+◌, ◌⊎◌, inl, inr, Bool, true, false, cond, List, ◌∷◌, length, drop, take, Option, Some, None, Result, Ok, Err, refl, sym, ap, subst, ◌∙◌, arith}
+use Rattle.std.proofs.Common.{◌≡◌, ℕ, ◌*◌, ◌+◌, ◌⊎◌, inl, inr, Bool, true, false, cond, List, ◌∷◌, ◌++◌, length, drop, take, Option, Some, None, Result, Ok, Err, refl, sym, ap, subst, ◌∙◌, arith}
 use Rattle.std.specs.FinMap.{get, insert}
 use Rattle.std.specs.Str.{bytes_eq}
-use Rattle.std.proofs.lemmas.List.{drop-drop, take_all}
+use Rattle.std.proofs.lemmas.List.{drop-drop}
+use Rattle.std.proofs.Math.Seq.{take-length}
 use Rattle.vm_types.specs.Saved.{Saved}
 use Rattle.refusals.specs.declared.refusal.Refusal.{Refusal}
 use Rattle.refusals.specs.declared.refusal.Refusal.TheVariants as refusal
@@ -10,6 +11,7 @@ use Rattle.vm_outside.specs.Calls.{FileCall, MakesFront}
 use Rattle.vm_outside.specs.Crashes.{Disk}
 use Rattle.vm_outside.specs.Filing.{SameFiles}
 use Rattle.vm_outside.specs.Known.{FilesKnown}
+use Rattle.vm_outside.proofs.Passing.{same_more}
 use Rattle.gate_file.specs.Moments.{AsBefore, IsShut}
 use Rattle.gate_file.specs.Runs.{RunsAll, RunsPart}
 use Rattle.gate_file.specs.Stages.{LeftMeanwhile}
@@ -50,9 +52,6 @@ not_found from to (Refused why) old new other found same = record { found = foun
 not_found from to Fault old new other found same = inl same
 not_found from to OutOfMemory old new other found same = same
 
-pub same_then : (old mid new : FilesKnown) → SameFiles old mid → SameFiles mid new → SameFiles old new
-same_then old mid new first second = record { saved = second.saved ∙ first.saved; calls = second.calls ∙ first.calls }
-
 -- nothing was done before
 runs_on : (name : List ℕ) (script : List FileCall) (text : List ℕ) (old mid new : FilesKnown) → SameFiles old mid → RunsAll name script text mid new
     → RunsAll name script text old new
@@ -78,16 +77,16 @@ leaves_on from to (Ok done) old mid new same it = record {
   runs = runs_on to (calls_of to it.diff) (file_of it.diff) old mid new same it.runs;
 }
 leaves_on from to (Err (Refused why)) old mid new same it =
-    record { found = found_on from to old mid (Err why) same it.found; same = same_then old mid new same it.same }
+    record { found = found_on from to old mid (Err why) same it.found; same = same_more old mid new same it.same }
 leaves_on from to (Err Fault) old mid new same it = elim it [
-  | inl none ↦ inl (same_then old mid new same none)
+  | inl none ↦ inl (same_more old mid new same none)
   | inr part ↦ inr (record {
     diff = part.diff;
     found = found_on from to old mid (Ok part.diff) same part.found;
     runs = part_on to (calls_of to part.diff) old mid new same part.runs;
   })
 ]
-leaves_on from to (Err OutOfMemory) old mid new same it = same_then old mid new same it
+leaves_on from to (Err OutOfMemory) old mid new same it = same_more old mid new same it
 
 -- ---- the diff that is found, by the pages that were read
 
@@ -110,7 +109,7 @@ module _ (given : List ℕ) (start : DiffStart) (d : DiffCopy) (is : IsStartOf g
   bytes_are =
       let size = (parts_fit p is.file.fits).size in
       let many : 4096 * start.header.stored ≡ length p.stored = ap (λ (h : DiffHeader). 4096 * h.stored) is.header ∙ sym size in
-      read ∙ ap (take (4096 * start.header.stored)) stored_here ∙ ap (λ (n : ℕ). take n p.stored) many ∙ take_all p.stored
+      read ∙ ap (take (4096 * start.header.stored)) stored_here ∙ ap (λ (n : ℕ). take n p.stored) many ∙ take-length p.stored
 
   pub full_here : are_stored start.header.version start.header.stored bytes ≡ true
   full_here =

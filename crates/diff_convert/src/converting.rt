@@ -1,5 +1,5 @@
 // A diff is written anew.
-ghost use Rattle.std.specs.Prelude.{◌≡◌, ◌⊎◌, ◌+◌, ◌*◌, ◌^◌, ◌<◌, ◌∷◌, ◌++◌, true, List, ℕ, Ok, Some, IfOk, OnErr, OnOk, length, take, drop};
+ghost use Rattle.std.specs.Prelude.{◌≡◌, ◌⊎◌, ◌≤◌, ◌*◌, ◌^◌, ◌<◌, ◌∷◌, ◌++◌, true, List, ℕ, Ok, Some, IfOk, OnErr, OnOk, length, take, drop};
 ghost use Rattle.std.specs.FinMap.{get};
 ghost use Rattle.std.specs.Str.{bytes_eq};
 ghost use Rattle.gate_file.specs.Moments.{AsBefore, IsShut};
@@ -8,7 +8,7 @@ ghost use Rattle.gate_file.specs.Runs.{RunsAll, RunsPart};
 ghost use Rattle.gate_file.specs.Stages.{LeftMeanwhile};
 ghost use Rattle.guest_pages.specs.Pages.{flat_of};
 ghost use Rattle.snap_diff.specs.Copies.{DiffCopy};
-ghost use Rattle.snap_diff.specs.Diffs.{are_stored, copy_of, table_size};
+ghost use Rattle.snap_diff.specs.Diffs.{are_stored, copy_of};
 ghost use Rattle.snap_writer.specs.Saving.{saving_calls};
 ghost use Rattle.snap_writer.specs.Selected.{can_select, selected};
 ghost use Rattle.snapshot_merge.specs.Answering.{IsWhole};
@@ -74,7 +74,8 @@ fn convert_file<F: Files>(
         Ok(start) => start,
         Err(why) => return Err(why),
     };
-    match pages_of(alloc, files, from, &start) {
+    let at = DiffHeader::SIZE as u64 + start.header.table_size();
+    match pages_of(alloc, files, from, at, start.header.stored) {
         Ok(pages) => write_found(alloc, files, to, &start, &pages),
         Err(FileError::Fault) => Err(RebaseError::Fault),
         Err(FileError::OutOfMemory) => Err(RebaseError::OutOfMemory),
@@ -87,25 +88,25 @@ fn are_same(from: &str, to: &str) -> bool
     from == to
 }
 
-// The pages that a diff stores.
+// The pages that a diff stores, from this offset of its file on.
 fn pages_of<F: Files>(
     alloc: Global,
     files: &mut F,
     name: &str,
-    start: &DiffStart,
+    at: u64,
+    count: u32,
 ) -> Result<PageSet, FileError>
+    requires { at ≤ 2 ^ 63 }
     ensures bytes { IfOk result (λ pages. Tells (F.known files.old).health → (given : List ℕ) →
-        get (F.known files.old).saved name.now ≡ Some given → (flat_of pages.pages).bytes
-        ≡ take (4096 * start.now.header.stored) (drop (64 + table_size start.now.header) given)) }
-    ensures count { IfOk result (λ pages. length pages.pages ≡ start.now.header.stored) }
+        get (F.known files.old).saved name.now ≡ Some given →
+        (flat_of pages.pages).bytes ≡ take (4096 * count) (drop at given)) }
+    ensures count { IfOk result (λ pages. length pages.pages ≡ count) }
     ensures few { IfOk result (λ pages. length pages.pages < 2 ^ 32) }
     ensures same { Tells (F.known files.old).health → SameFiles (F.known files.old) (F.known files.new) }
     ensures cause { FileCause result (F.known files.old).health.faults (F.known files.new).health.faults }
     ensures lasts { Lasts (F.known files.old).health (F.known files.new).health }
 {
-    let header = start.header;
-    let at = DiffHeader::SIZE as u64 + header.table_size();
-    match load_pages(alloc, files, name, at, header.stored) {
+    match load_pages(alloc, files, name, at, count) {
         Ok(pages) => Ok(pages),
         Err(why) => Err(why),
     }

@@ -5,23 +5,7 @@ use Rattle.std.proofs.lemmas.List.{take_at, drop_at}
 use Rattle.file_format.specs.Format.{Format}
 use Rattle.file_format.specs.Kinds.{byte_list}
 use Rattle.file_format.specs.Ends.{Listing, listed}
-<<<<<<< 8bde38ab
 use Rattle.file_format.specs.Whole.{counted}
-=======
-use Rattle.file_format.specs.Whole.{IsEncoding, IsDecoded, TakesWhole, whole_only, whole_none, counted}
-
-pub put_first : {A : Type 0} (format : Format A) (v : A) (bytes : List ℕ) → format.Fits v → bytes ≡ format.puts v []
-    → IsEncoding format bytes v
-put_first format v bytes fits e = (fits, e ∙ format.same v [])
-
-pub taken_whole : {A : Type 0} (format : Format A) (given : List ℕ) (result : Result A ReadError) → IsBytes given
-    → TakesWhole format given result → IsDecoded format given result
-taken_whole format given (Ok v) is e = whole_only format given v is e
-taken_whole format given (Err Bad) is e = whole_none format given e
-taken_whole format given (Err Memory) is e = tt
-
-pub ruleset wholes = (put_first, taken_whole)
->>>>>>> m
 
 -- a count that is put in the place that was left for it
 record Put (bytes old mid : List ℕ) : Type 0 where

@@ -30,11 +30,7 @@ use Rattle.queue_device.specs.Sizes.{IsLength}
 use Rattle.queue_device.specs.Spilling.{spill_left}
 use Rattle.queue_device.proofs.Acting.{keeps_when, led_keeps, performing_acts, performing_keeps}
 use Rattle.queue_device.proofs.Never.{never}
-<<<<<<< 8bde38ab
 use Rattle.queue_device.proofs.Pieces.{collect_asks, collect_next, filter_few, more_of, put_asks, put_next}
-=======
-use Rattle.queue_device.proofs.Pieces.{collect_asks, collect_next, filter_few, is_some_of, more_of, put_asks, put_next}
->>>>>>> m
 use Rattle.filler_device.specs.declared.kind.Stage.{Stage}
 use Rattle.filler_device.specs.declared.kind.Stage.TheVariants as stage
 use Rattle.filler_device.specs.Filler.{Filler, filled, filler, limited, no_bytes, no_call, only_read, served_by, taken_by}

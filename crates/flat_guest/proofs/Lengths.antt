@@ -11,11 +11,7 @@ use Rattle.guest_memory.specs.Reserved.{first_slot, granule_of, held_by, is_gran
 use Rattle.guest_memory.specs.Words.{width_of, word_bytes}
 use Rattle.flat_guest.specs.Guest.{whole_pages}
 use Rattle.flat_guest.specs.Steps.{memory_after}
-<<<<<<< 8bde38ab
 use Rattle.guest_memory.proofs.Keeping.{put_long, word_long}
-=======
-use Rattle.guest_memory.proofs.Keeping.{put_long}
->>>>>>> m
 
 module _ (m : Memory) (actor : ActorId) where
   abbrev IsAsLong : Reply × Memory → Type 0

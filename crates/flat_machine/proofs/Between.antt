@@ -53,11 +53,7 @@ use Rattle.flat_machine.specs.Outcome.{Left, Outcome}
 use Rattle.flat_machine.specs.Outcome.Outcome.{Answered, Failed, NoMemory}
 use Rattle.flat_machine.specs.Machine.{Machine, drained, drained_guest, phase_by, phase_of, running_by}
 use Rattle.flat_machine.specs.Items.{ItemStep, MemoryLine, RegisterLine, RepliesLine, StepsLine, Talks}
-<<<<<<< 8bde38ab
 use Rattle.responses.specs.Responses.{Response}
-=======
-use Rattle.response_form.specs.Responses.{Response}
->>>>>>> m
 use Rattle.flat_machine.specs.Requests.{CreateFails, Creates, Fails, Leaves, LeavesBy, RequestStep, Stores, allowed, configured, halted, next_identity, patched_balloon, patched_drive, patched_interface, patched_statistics, relimited, resized, retargeted, retimed, sectors_of, shows_by, told_at}
 use Rattle.flat_machine.specs.Run.{Act, Run}
 use Rattle.flat_machine.proofs.Allowed.{IsAllowed, allowed_is}
@@ -123,13 +119,9 @@ IsLater (change.BootSource source) = ⊥
 IsLater (change.PutDrive drive) = ⊥
 IsLater (change.PutInterface interface) = ⊥
 IsLater (change.MachineConfig machine) = ⊥
-<<<<<<< 8bde38ab
 IsLater (change.PutVsock vsock) = ⊥
 IsLater (change.PutBalloon balloon) = ⊥
 IsLater (change.MmdsConfig mmds) = ⊥
-=======
-IsLater (change.PutBalloon balloon) = ⊥
->>>>>>> m
 IsLater change.Start = ⊥
 IsLater (change.LoadSnapshot load) = ⊥
 IsLater it = Unit {0}
@@ -149,17 +141,11 @@ at_its_time p config (call.PutInterface interface) started placed = too_late p s
 at_its_time p config (call.PatchInterface patch) started placed = tt
 at_its_time p config (call.PutMachineConfig machine) started placed = too_late p started placed
 at_its_time p config (call.PatchMachineConfig patch) started placed = too_late p started placed
-<<<<<<< 8bde38ab
 at_its_time p config (call.PutVsock vsock) started placed = too_late p started placed
 at_its_time p config (call.PutBalloon balloon) started placed = too_late p started placed
 at_its_time p config (call.PatchBalloon patch) started placed = tt
 at_its_time p config (call.PatchStatistics patch) started placed = tt
 at_its_time p config (call.PutMmdsConfig mmds) started placed = too_late p started placed
-=======
-at_its_time p config (call.PutBalloon balloon) started placed = too_late p started placed
-at_its_time p config (call.PatchBalloon patch) started placed = tt
-at_its_time p config (call.PatchStatistics patch) started placed = tt
->>>>>>> m
 at_its_time p config (call.PutMetadata body) started placed = tt
 at_its_time p config (call.PatchMetadata patch) started placed = tt
 at_its_time p config call.InstanceStart started placed = too_late p started placed
@@ -274,10 +260,7 @@ leaves_on g (change.PatchInterface patch) m n there later is =
     relimited_keeps h.0 transmits_told patch.tx_rate_limiter number (relimited receives_told patch.rx_rate_limiter number m.guest) h.1 in
     moved g m n after is (by_events g q.0 m after q.1 refl refl (keeps_both g h.0 q.0 h.2 q.2))
 leaves_on g (change.MachineConfig machine) m n there later is = absurd later
-<<<<<<< 8bde38ab
 leaves_on g (change.PutVsock vsock) m n there later is = absurd later
-=======
->>>>>>> m
 leaves_on g (change.PutBalloon balloon) m n there later is = absurd later
 leaves_on g (change.PatchBalloon patch) m n there later is =
     let after : Machine = configured (patched_balloon m patch) (change.PatchBalloon patch) in
@@ -287,10 +270,7 @@ leaves_on g (change.PatchStatistics patch) m n there later is =
     let after : Machine = configured (patched_statistics m patch) (change.PatchStatistics patch) in
     let h = retimed_keeps g (with_interval patch m.config.balloon) (balloon_device m.config) m.guest there in
     moved g m n after is (by_events g h.0 m after h.1 refl refl h.2)
-<<<<<<< 8bde38ab
 leaves_on g (change.MmdsConfig mmds) m n there later is = absurd later
-=======
->>>>>>> m
 leaves_on g change.Start m n there later is = absurd later
 leaves_on g (change.State Paused) m n there later is =
     let h = halted_keeps g m.paused m.guest there in
@@ -326,17 +306,11 @@ fails_on g change.Start m left n there x = same g m n there x.1
 fails_on g (change.State state) m left n there x = absurd x
 fails_on g (change.CreateSnapshot it) m left n there x = create_fails_on g m.guest m it left n there x
 fails_on g (change.LoadSnapshot load) m left n there x = same g m n there x.1
-<<<<<<< 8bde38ab
 fails_on g (change.PutVsock vsock) m left n there x = absurd x
 fails_on g (change.PutBalloon balloon) m left n there x = absurd x
 fails_on g (change.PatchBalloon patch) m left n there x = absurd x
 fails_on g (change.PatchStatistics patch) m left n there x = absurd x
 fails_on g (change.MmdsConfig mmds) m left n there x = absurd x
-=======
-fails_on g (change.PutBalloon balloon) m left n there x = absurd x
-fails_on g (change.PatchBalloon patch) m left n there x = absurd x
-fails_on g (change.PatchStatistics patch) m left n there x = absurd x
->>>>>>> m
 fails_on g (change.PutMetadata body) m left n there x = absurd x
 fails_on g (change.PatchMetadata patch) m left n there x = absurd x
 fails_on g (change.Tell part) m left n there x = absurd x

@@ -128,17 +128,11 @@ result_one (Ok (change.PatchDrive patch)) m kept n k x y = x.1 ∙ sym y.1
 result_one (Ok (change.PutInterface interface)) m kept n k x y = x.1 ∙ sym y.1
 result_one (Ok (change.PatchInterface patch)) m kept n k x y = x.1 ∙ sym y.1
 result_one (Ok (change.MachineConfig machine)) m kept n k x y = x.1 ∙ sym y.1
-<<<<<<< 8bde38ab
 result_one (Ok (change.PutVsock vsock)) m kept n k x y = x.1 ∙ sym y.1
 result_one (Ok (change.PutBalloon balloon)) m kept n k x y = x.1 ∙ sym y.1
 result_one (Ok (change.PatchBalloon patch)) m kept n k x y = x.1 ∙ sym y.1
 result_one (Ok (change.PatchStatistics patch)) m kept n k x y = x.1 ∙ sym y.1
 result_one (Ok (change.MmdsConfig mmds)) m kept n k x y = x.1 ∙ sym y.1
-=======
-result_one (Ok (change.PutBalloon balloon)) m kept n k x y = x.1 ∙ sym y.1
-result_one (Ok (change.PatchBalloon patch)) m kept n k x y = x.1 ∙ sym y.1
-result_one (Ok (change.PatchStatistics patch)) m kept n k x y = x.1 ∙ sym y.1
->>>>>>> m
 result_one (Ok (change.PutMetadata body)) m kept n k x y = stores_one (put body) m n k x.1 y.1
 result_one (Ok (change.PatchMetadata patch)) m kept n k x y = stores_one (patched m.metadata patch) m n k x.1 y.1
 result_one (Ok change.Start) m kept n k x y = x.1 ∙ sym y.1
@@ -156,17 +150,11 @@ fails_one (change.PatchDrive patch) m left n k x y = x.3 ∙ sym y.3
 fails_one (change.PutInterface interface) m left n k x y = absurd x
 fails_one (change.PatchInterface patch) m left n k x y = absurd x
 fails_one (change.MachineConfig machine) m left n k x y = absurd x
-<<<<<<< 8bde38ab
 fails_one (change.PutVsock vsock) m left n k x y = absurd x
 fails_one (change.PutBalloon balloon) m left n k x y = absurd x
 fails_one (change.PatchBalloon patch) m left n k x y = absurd x
 fails_one (change.PatchStatistics patch) m left n k x y = absurd x
 fails_one (change.MmdsConfig mmds) m left n k x y = absurd x
-=======
-fails_one (change.PutBalloon balloon) m left n k x y = absurd x
-fails_one (change.PatchBalloon patch) m left n k x y = absurd x
-fails_one (change.PatchStatistics patch) m left n k x y = absurd x
->>>>>>> m
 fails_one (change.PutMetadata body) m left n k x y = absurd x
 fails_one (change.PatchMetadata patch) m left n k x y = absurd x
 fails_one change.Start m left n k x y = x.1 ∙ sym y.1

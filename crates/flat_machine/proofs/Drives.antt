@@ -10,10 +10,7 @@ use Rattle.api_calls.specs.declared.balloon.Balloon.{Balloon}
 use Rattle.api_calls.specs.declared.call.Drive.{Drive}
 use Rattle.api_calls.specs.declared.call.DrivePatch.{DrivePatch}
 use Rattle.api_calls.specs.declared.interface.Interface.{Interface}
-<<<<<<< 8bde38ab
 use Rattle.api_calls.specs.declared.vsock.Vsock.{Vsock}
-=======
->>>>>>> m
 use Rattle.api_calls.specs.declared.limiter.Limiter.{Limiter}
 use Rattle.api_calls.specs.Form.{holds, is_id, is_path}
 use Rattle.api_calls.specs.Limits.{is_bucket, is_limiter}
@@ -230,7 +227,6 @@ module _ (drive : Drive) (drives : List Drive) (is : AreDrives drives) (own : is
   roots_put false known = few_pushed known (is_root drive) refl
 
   -- where there is room for one more, if it is one
-<<<<<<< 8bde38ab
   count_put : (interfaces : List Interface) (vsock : Option Vsock) (balloon : Option Balloon) (there : Bool) → has_room drives interfaces vsock balloon ≡ true
       → (not there && nat_le 16 (count_in drives interfaces vsock balloon)) ≡ false
       → count_in (if there then with_changed drive.drive_id (λ d. drive) drives else drives ++ drive ∷ []) interfaces vsock balloon ≤ 16
@@ -251,37 +247,11 @@ pub put_told : (drive : Drive) (drives : List Drive) (interfaces : List Interfac
 put_told drive drives interfaces vsock balloon are fits own roots room =
     let is = parts_of drives are in
     let count = count_put drive drives is own roots interfaces vsock balloon (has_drive drives drive.drive_id) fits room in (
-=======
-  count_put : (interfaces : List Interface) (balloon : Option Balloon) (there : Bool) → has_room drives interfaces balloon ≡ true
-      → (not there && nat_le 16 (count_in drives interfaces balloon)) ≡ false
-      → count_in (if there then with_changed drive.drive_id (λ d. drive) drives else drives ++ drive ∷ []) interfaces balloon ≤ 16
-  count_put interfaces balloon true fits room =
-      let many = length-changed id_of_drive drive.drive_id (λ d. drive) drives in
-      omega (arith, many, leb-true (count_in drives interfaces balloon) 16 fits)
-  count_put interfaces balloon false fits room =
-      let many = length-append drives (drive ∷ []) in
-      let less = leb-false 16 (count_in drives interfaces balloon) room in
-      omega (arith, many, less)
-
--- where no other drive is the root drive, and there is room for one more
-pub put_told : (drive : Drive) (drives : List Drive) (interfaces : List Interface) (balloon : Option Balloon) → are_drives drives ≡ true
-    → has_room drives interfaces balloon ≡ true → is_drive drive ≡ true
-    → (is_root drive && list_any (λ d. is_root d && not (is_named drive.drive_id d)) drives) ≡ false
-    → (not (has_drive drives drive.drive_id) && nat_le 16 (count_in drives interfaces balloon)) ≡ false
-    → AreFitting (put_drive drives drive) interfaces balloon
-put_told drive drives interfaces balloon are fits own roots room =
-    let is = parts_of drives are in
-    let count = count_put drive drives is own roots interfaces balloon (has_drive drives drive.drive_id) fits room in (
->>>>>>> m
       are_all (put_drive drives drive) (record {
         few = omega (arith, count);
         each = each_put id_of_drive is_drive drives drive is.each own;
         apart = apart_put id_of_drive drives drive is.apart;
         root = roots_put drive drives is own roots (has_drive drives drive.drive_id) refl;
       }),
-<<<<<<< 8bde38ab
       le-leb (count_in (put_drive drives drive) interfaces vsock balloon) 16 count,
-=======
-      le-leb (count_in (put_drive drives drive) interfaces balloon) 16 count,
->>>>>>> m
     )

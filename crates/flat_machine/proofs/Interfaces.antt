@@ -6,10 +6,7 @@ use Rattle.api_calls.specs.declared.balloon.Balloon.{Balloon}
 use Rattle.api_calls.specs.declared.call.Drive.{Drive}
 use Rattle.api_calls.specs.declared.interface.Interface.{Interface}
 use Rattle.api_calls.specs.declared.interface.InterfacePatch.{InterfacePatch}
-<<<<<<< 8bde38ab
 use Rattle.api_calls.specs.declared.vsock.Vsock.{Vsock}
-=======
->>>>>>> m
 use Rattle.api_calls.specs.Form.{holds}
 use Rattle.api_calls.specs.Limits.{is_limiter}
 use Rattle.vm_config.specs.Devices.{count_in}
@@ -17,10 +14,6 @@ use Rattle.vm_config.specs.Interfaces.{has_interface, id_of_interface, patch_int
 use Rattle.vm_config.specs.Named.{are_apart, changed_in}
 use Rattle.vm_config.proofs.Apart.{apart_changed, apart_put, each_changed, each_put, length-changed}
 use Rattle.snap_state.specs.Valid.{are_interfaces, has_room, is_interface}
-<<<<<<< 8bde38ab
-=======
-use Rattle.flat_machine.specs.Ready.{AreLinked}
->>>>>>> m
 use Rattle.flat_machine.proofs.Drives.{limits_kept}
 
 -- ---- other limits
@@ -50,7 +43,6 @@ many_patched patch interfaces = length-changed id_of_interface patch.iface_id (p
 -- ---- an interface that is put
 
 -- where there is room for one more, if it is one
-<<<<<<< 8bde38ab
 count_put : (drives : List Drive) (interface : Interface) (interfaces : List Interface) (vsock : Option Vsock) (balloon : Option Balloon) (there : Bool)
     → has_room drives interfaces vsock balloon ≡ true → (not there && nat_le 16 (count_in drives interfaces vsock balloon)) ≡ false
     → count_in drives (if there then changed_in id_of_interface interface.iface_id (λ i. interface) interfaces else interfaces ++ interface ∷ []) vsock balloon
@@ -74,28 +66,4 @@ interface_put drives interface interfaces vsock balloon are fits own room =
       and_from _ _ (each_put id_of_interface is_interface interfaces interface parts.0 own)
           (apart_put id_of_interface interfaces interface parts.1),
       le-leb (count_in drives (put_interface interfaces interface) vsock balloon) 16 count,
-=======
-count_put : (drives : List Drive) (interface : Interface) (interfaces : List Interface) (balloon : Option Balloon) (there : Bool)
-    → has_room drives interfaces balloon ≡ true → (not there && nat_le 16 (count_in drives interfaces balloon)) ≡ false
-    → count_in drives (if there then changed_in id_of_interface interface.iface_id (λ i. interface) interfaces else interfaces ++ interface ∷ []) balloon
-    ≤ 16
-count_put drives interface interfaces balloon true fits room =
-    let many = length-changed id_of_interface interface.iface_id (λ i. interface) interfaces in
-    omega (arith, many, leb-true (count_in drives interfaces balloon) 16 fits)
-count_put drives interface interfaces balloon false fits room =
-    let many = length-append interfaces (interface ∷ []) in
-    let less = leb-false 16 (count_in drives interfaces balloon) room in
-    omega (arith, many, less)
-
-pub interface_put : (drives : List Drive) (interface : Interface) (interfaces : List Interface) (balloon : Option Balloon)
-    → are_interfaces interfaces ≡ true → has_room drives interfaces balloon ≡ true → is_interface interface ≡ true
-    → (not (has_interface interfaces interface.iface_id) && nat_le 16 (count_in drives interfaces balloon)) ≡ false
-    → AreLinked drives (put_interface interfaces interface) balloon
-interface_put drives interface interfaces balloon are fits own room =
-    let parts = and_parts (list_all is_interface interfaces) (are_apart id_of_interface interfaces) are in
-    let count = count_put drives interface interfaces balloon (has_interface interfaces interface.iface_id) fits room in (
-      and_from _ _ (each_put id_of_interface is_interface interfaces interface parts.0 own)
-          (apart_put id_of_interface interfaces interface parts.1),
-      le-leb (count_in drives (put_interface interfaces interface) balloon) 16 count,
->>>>>>> m
     )

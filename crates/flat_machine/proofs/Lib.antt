@@ -5,10 +5,7 @@ pub mod Determined
 pub mod Drives
 pub mod Fields
 pub mod Interfaces
-<<<<<<< 8bde38ab
 pub mod Mmds
-=======
->>>>>>> m
 pub mod Numbered
 pub mod OneReplay
 pub mod Plain

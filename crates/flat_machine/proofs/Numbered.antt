@@ -66,17 +66,11 @@ asked_for config (call.PutInterface interface) it is = absurd cc
 asked_for config (call.PatchInterface patch) it is = absurd cc
 asked_for config (call.PutMachineConfig machine) it is = absurd cc
 asked_for config (call.PatchMachineConfig patch) it is = absurd cc
-<<<<<<< 8bde38ab
 asked_for config (call.PutVsock vsock) it is = absurd cc
 asked_for config (call.PutBalloon balloon) it is = absurd cc
 asked_for config (call.PatchBalloon patch) it is = absurd cc
 asked_for config (call.PatchStatistics patch) it is = absurd cc
 asked_for config (call.PutMmdsConfig mmds) it is = absurd cc
-=======
-asked_for config (call.PutBalloon balloon) it is = absurd cc
-asked_for config (call.PatchBalloon patch) it is = absurd cc
-asked_for config (call.PatchStatistics patch) it is = absurd cc
->>>>>>> m
 asked_for config (call.PutMetadata body) it is = absurd cc
 asked_for config (call.PatchMetadata patch) it is = absurd cc
 asked_for config call.InstanceStart it is = absurd cc

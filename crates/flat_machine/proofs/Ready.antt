@@ -68,11 +68,7 @@ use Rattle.flat_machine.specs.Run.{Act, Run}
 use Rattle.flat_machine.proofs.Allowed.{IsAllowed, allowed_is, not_refused}
 use Rattle.flat_machine.proofs.Between.{allowed_later, by_either, leaves_of, one_many, several_many, started}
 use Rattle.flat_machine.proofs.Numbered.{found_numbered}
-<<<<<<< 8bde38ab
 use Rattle.flat_machine.proofs.ReadyGuests.{drained_ready, halted_ready, made_sound, reset_ready, resumed_ready, unwritten_ready}
-=======
-use Rattle.flat_machine.proofs.ReadyGuests.{drained_ready, halted_ready, reset_ready, resumed_ready, unwritten_ready}
->>>>>>> m
 use Rattle.flat_machine.proofs.Reconfigured.{amount_patched, drive_patched, interface_patched, interval_patched, relimited_ready, resized_ready, retargeted_ready, retimed_ready, start_kinds, start_many}
 use Rattle.flat_machine.proofs.Sizes.{booted_size, devices_fit, start_fits}
 use Rattle.flat_machine.proofs.Taken.{allowed_fits, bounded, changed_taken, configured_taken, default_taken, taken_configured}
@@ -182,11 +178,8 @@ module _ (m : Machine) (image : List ℕ) (ready : Ready m) (there : image_of m 
             source = source_there.source;
             drives = source_there.drives;
             interfaces = source_there.interfaces;
-<<<<<<< 8bde38ab
             vsock = source_there.vsock;
             mmds = source_there.mmds;
-=======
->>>>>>> m
             machine = source_there.machine;
             balloon = source_there.balloon;
             room = source_there.room;
@@ -281,13 +274,10 @@ leaves_ready (change.PatchInterface patch) m n ready known is =
     let it : Change = change.PatchInterface patch in
     ready_is (configured (patched_interface m patch) it) n is
     (limits_ready m patch ready (changed_taken m.config it ready.taken (allowed_fits m it ready.taken known)))
-<<<<<<< 8bde38ab
 leaves_ready (change.PutVsock vsock) m n ready known is =
     let it : Change = change.PutVsock vsock in
     ready_is (configured m it) n is
     (configures m it ready (changed_taken m.config it ready.taken (allowed_fits m it ready.taken known)) (λ on. allowed_later m it on known))
-=======
->>>>>>> m
 leaves_ready (change.PutBalloon balloon) m n ready known is =
     let it : Change = change.PutBalloon balloon in
     ready_is (configured m it) n is
@@ -300,13 +290,10 @@ leaves_ready (change.PatchStatistics patch) m n ready known is =
     let it : Change = change.PatchStatistics patch in
     ready_is (configured (patched_statistics m patch) it) n is
     (interval_ready m patch ready (changed_taken m.config it ready.taken (allowed_fits m it ready.taken known)))
-<<<<<<< 8bde38ab
 leaves_ready (change.MmdsConfig mmds) m n ready known is =
     let it : Change = change.MmdsConfig mmds in
     ready_is (configured m it) n is
     (configures m it ready (changed_taken m.config it ready.taken (allowed_fits m it ready.taken known)) (λ on. allowed_later m it on known))
-=======
->>>>>>> m
 leaves_ready change.Start m n ready known is =
     let none = (not_refused (start_refusal m.config m.saved) (Ok change.Start) change.Start known.contents).0 in
     ready_is (configured (started_from (image_of m) (disk_of m) m) change.Start) n is
@@ -347,17 +334,11 @@ fails_ready (change.CreateSnapshot it) m left n ready x = create_fails_ready m.g
 fails_ready (change.LoadSnapshot load) m left n ready x = ready_is m n x.1 ready
 fails_ready (change.PutInterface interface) m left n ready x = absurd x
 fails_ready (change.PatchInterface patch) m left n ready x = absurd x
-<<<<<<< 8bde38ab
 fails_ready (change.PutVsock vsock) m left n ready x = absurd x
 fails_ready (change.PutBalloon balloon) m left n ready x = absurd x
 fails_ready (change.PatchBalloon patch) m left n ready x = absurd x
 fails_ready (change.PatchStatistics patch) m left n ready x = absurd x
 fails_ready (change.MmdsConfig mmds) m left n ready x = absurd x
-=======
-fails_ready (change.PutBalloon balloon) m left n ready x = absurd x
-fails_ready (change.PatchBalloon patch) m left n ready x = absurd x
-fails_ready (change.PatchStatistics patch) m left n ready x = absurd x
->>>>>>> m
 fails_ready (change.PutMetadata body) m left n ready x = absurd x
 fails_ready (change.PatchMetadata patch) m left n ready x = absurd x
 fails_ready (change.Tell part) m left n ready x = absurd x

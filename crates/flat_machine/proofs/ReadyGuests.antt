@@ -1,4 +1,3 @@
-<<<<<<< 8bde38ab
 -- A guest that is ready stays so, where its machine halts it or lets it go on, and where it is reset, written out or read from;
 -- and a sound one stays sound behind its events.
 use Rattle.std.proofs.Common.{Bool, true, false, refl, subst, List, [], ◌∷◌, Option, Some, None}
@@ -13,16 +12,6 @@ use Rattle.flat_guest.specs.Start.{timer_restarted}
 use Rattle.flat_guest.specs.Steps.{Makes}
 use Rattle.flat_guest.proofs.Shaped.{shaped_drained, shaped_restart, shaped_unwritten}
 use Rattle.flat_guest.proofs.Soundness.{sound_next, sound_reset, sound_restart}
-=======
--- A guest that is ready stays so, where its machine halts it or lets it go on, and where it is reset, written out or read from.
-use Rattle.std.proofs.Common.{Bool, true, false, refl, Option, Some, None}
-use Rattle.vm_config.specs.declared.config.Config.{Config}
-use Rattle.flat_guest.specs.Changes.{reset_guest}
-use Rattle.flat_guest.specs.Guest.{Guest, unwritten}
-use Rattle.flat_guest.specs.Start.{timer_restarted}
-use Rattle.flat_guest.proofs.Shaped.{shaped_drained, shaped_restart, shaped_unwritten}
-use Rattle.flat_guest.proofs.Soundness.{sound_reset, sound_restart}
->>>>>>> m
 use Rattle.flat_snapshot.proofs.Ready.{ready_reset}
 use Rattle.flat_machine.specs.Machine.{drained_guest}
 use Rattle.flat_machine.specs.Ready.{IsReadyGuest, ReadyBy}
@@ -77,11 +66,8 @@ drained_ready config paused (Some g) is = record {
   };
   rests = is.rests;
 }
-<<<<<<< 8bde38ab
 
 pub made_sound : (es : List Entry) (g h : Guest) (actor : ActorId) → Makes g actor es h → IsSound g → IsSound h
 made_sound [] g h actor made sound = subst (λ (q : Guest). IsSound q) made sound
 made_sound (e ∷ es) g h actor (unstamped, mid, step, more) sound =
     made_sound es mid h actor more (sound_next g (record { actor = actor; given = Nothing }) e mid sound step)
-=======
->>>>>>> m

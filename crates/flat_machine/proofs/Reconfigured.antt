@@ -13,18 +13,11 @@ use Rattle.api_calls.specs.declared.call.MachineConfig.{MachineConfig}
 use Rattle.api_calls.specs.declared.interface.Interface.{Interface}
 use Rattle.api_calls.specs.declared.interface.InterfacePatch.{InterfacePatch}
 use Rattle.api_calls.specs.declared.limiter.Limiter.{Limiter}
-<<<<<<< 8bde38ab
 use Rattle.api_calls.specs.declared.vsock.Vsock.{Vsock}
 use Rattle.vm_config.specs.declared.config.Config.{Config}
 use Rattle.vm_config.specs.declared.change.Change.TheVariants as change
 use Rattle.vm_config.specs.Changes.{changed, with_amount, with_interval}
 use Rattle.vm_config.specs.Devices.{Configured, balloon_count, balloon_devices, device_count, devices_in, devices_of, of_balloon, of_drive, of_interface, of_vsock, vsock_count, vsock_devices}
-=======
-use Rattle.vm_config.specs.declared.config.Config.{Config}
-use Rattle.vm_config.specs.declared.change.Change.TheVariants as change
-use Rattle.vm_config.specs.Changes.{changed, with_amount, with_interval}
-use Rattle.vm_config.specs.Devices.{Configured, balloon_count, balloon_devices, device_count, devices_in, devices_of, of_balloon, of_drive, of_interface}
->>>>>>> m
 use Rattle.vm_config.specs.Drives.{in_order}
 use Rattle.vm_config.proofs.DeviceLemmas.{counted, length-ordered}
 use Rattle.port_table.specs.declared.kind.DeviceKind.{DeviceKind}
@@ -60,7 +53,6 @@ things_alike of kind is (a ∷ things) (b ∷ others) rest more many alike =
     ap (λ (k : DeviceKind). k ∷ map kind_configured (map of things ++ rest)) (is a ∙ sym (is b))
     ∙ ap (λ (l : List DeviceKind). kind_configured (of b) ∷ l) (things_alike of kind is things others rest more (omega (arith, many)) alike)
 
-<<<<<<< 8bde38ab
 kinds_alike : (drives others : List Drive) (interfaces links : List Interface) (vsock : Option Vsock) (balloon other : Option Balloon)
     → length drives ≡ length others → length interfaces ≡ length links
     → map kind_configured (balloon_devices balloon) ≡ map kind_configured (balloon_devices other)
@@ -78,18 +70,6 @@ kinds_alike drives others interfaces links vsock balloon other many linked alike
         → map kind_configured (vsock_devices v ++ balloon_devices balloon) ≡ map kind_configured (vsock_devices v ++ balloon_devices other)
     by_vsock None = alike
     by_vsock (Some v) = ap (λ (l : List DeviceKind). numbers.Vsock ∷ l) alike
-=======
-kinds_alike : (drives others : List Drive) (interfaces links : List Interface) (balloon other : Option Balloon)
-    → length drives ≡ length others → length interfaces ≡ length links
-    → map kind_configured (balloon_devices balloon) ≡ map kind_configured (balloon_devices other)
-    → map kind_configured (devices_in drives interfaces balloon) ≡ map kind_configured (devices_in others links other)
-kinds_alike drives others interfaces links balloon other many linked alike =
-    let own = length-ordered drives in
-    let new = length-ordered others in
-    things_alike of_drive numbers.Block (λ d. refl) (in_order drives) (in_order others)
-    (map of_interface interfaces ++ balloon_devices balloon) (map of_interface links ++ balloon_devices other) (omega (arith, many, own, new))
-    (things_alike of_interface numbers.Net (λ i. refl) interfaces links (balloon_devices balloon) (balloon_devices other) linked alike)
->>>>>>> m
 
 -- a balloon of another amount or interval is as good as it was
 amount_alike : (patch : BalloonPatch) (balloon : Option Balloon)
@@ -115,10 +95,7 @@ from_kinds : (configured : List Configured) (saved : Saved) → kinds_at_start (
 from_kinds [] saved = refl
 from_kinds (of_drive d ∷ others) saved = ap (λ (l : List DeviceKind). numbers.Block ∷ l) (from_kinds others saved)
 from_kinds (of_interface i ∷ others) saved = ap (λ (l : List DeviceKind). numbers.Net ∷ l) (from_kinds others saved)
-<<<<<<< 8bde38ab
 from_kinds (of_vsock v ∷ others) saved = ap (λ (l : List DeviceKind). numbers.Vsock ∷ l) (from_kinds others saved)
-=======
->>>>>>> m
 from_kinds (of_balloon b ∷ others) saved = ap (λ (l : List DeviceKind). numbers.Balloon ∷ l) (from_kinds others saved)
 
 pub start_kinds : (config : Config) (saved : Saved) → kinds_at_start (devices_from config saved) ≡ kinds_of (configuration_of config)
@@ -149,11 +126,8 @@ module _ (config after : Config) (paused : Bool) (taken : IsTaken after) (source
             subst (λ (s : Option BootSource). is_source (source_of s) ≡ true) (sym source) is.ready.configured.source;
         drives = taken.drives;
         interfaces = taken.interfaces;
-<<<<<<< 8bde38ab
         vsock = taken.vsock;
         mmds = taken.mmds;
-=======
->>>>>>> m
         machine = taken.machine;
         balloon = taken.balloon;
         room = taken.room;
@@ -170,13 +144,8 @@ pub drive_patched : (config : Config) (patch : DrivePatch) (paused : Bool) (gues
 drive_patched config patch paused guest taken is =
     let after : Config = changed config (change.PatchDrive patch) in
     let many = length-patched patch config.drives in
-<<<<<<< 8bde38ab
     let kinds = kinds_alike config.drives after.drives config.interfaces config.interfaces config.vsock config.balloon config.balloon (sym many) refl refl in
     let count = ap (λ (n : ℕ). n + length config.interfaces + vsock_count config.vsock + balloon_count config.balloon) (sym many) in
-=======
-    let kinds = kinds_alike config.drives after.drives config.interfaces config.interfaces config.balloon config.balloon (sym many) refl refl in
-    let count = ap (λ (n : ℕ). n + length config.interfaces + balloon_count config.balloon) (sym many) in
->>>>>>> m
     reconfigured config after paused taken refl refl kinds count guest is
 
 pub interface_patched : (config : Config) (patch : InterfacePatch) (paused : Bool) (guest : Option Guest)
@@ -185,26 +154,16 @@ pub interface_patched : (config : Config) (patch : InterfacePatch) (paused : Boo
 interface_patched config patch paused guest taken is =
     let after : Config = changed config (change.PatchInterface patch) in
     let many = many_patched patch config.interfaces in
-<<<<<<< 8bde38ab
     let kinds = kinds_alike config.drives config.drives config.interfaces after.interfaces config.vsock config.balloon config.balloon refl (sym many) refl in
     let count = ap (λ (n : ℕ). length config.drives + n + vsock_count config.vsock + balloon_count config.balloon) (sym many) in
-=======
-    let kinds = kinds_alike config.drives config.drives config.interfaces after.interfaces config.balloon config.balloon refl (sym many) refl in
-    let count = ap (λ (n : ℕ). length config.drives + n + balloon_count config.balloon) (sym many) in
->>>>>>> m
     reconfigured config after paused taken refl refl kinds count guest is
 
 pub amount_patched : (config : Config) (patch : BalloonPatch) (paused : Bool) (guest : Option Guest) → IsTaken (changed config (change.PatchBalloon patch))
     → ReadyBy config paused guest → ReadyBy (changed config (change.PatchBalloon patch)) paused guest
 amount_patched config patch paused guest taken is =
     let after : Config = changed config (change.PatchBalloon patch) in
-<<<<<<< 8bde38ab
     let kinds = kinds_alike config.drives config.drives config.interfaces config.interfaces config.vsock config.balloon after.balloon refl refl (amount_alike patch config.balloon) in
     let count = ap (λ (n : ℕ). length config.drives + length config.interfaces + vsock_count config.vsock + n) (amount_count patch config.balloon) in
-=======
-    let kinds = kinds_alike config.drives config.drives config.interfaces config.interfaces config.balloon after.balloon refl refl (amount_alike patch config.balloon) in
-    let count = ap (λ (n : ℕ). length config.drives + length config.interfaces + n) (amount_count patch config.balloon) in
->>>>>>> m
     reconfigured config after paused taken refl refl kinds count guest is
 
 pub interval_patched : (config : Config) (patch : StatisticsPatch) (paused : Bool) (guest : Option Guest)
@@ -212,13 +171,8 @@ pub interval_patched : (config : Config) (patch : StatisticsPatch) (paused : Boo
     → ReadyBy (changed config (change.PatchStatistics patch)) paused guest
 interval_patched config patch paused guest taken is =
     let after : Config = changed config (change.PatchStatistics patch) in
-<<<<<<< 8bde38ab
     let kinds = kinds_alike config.drives config.drives config.interfaces config.interfaces config.vsock config.balloon after.balloon refl refl (interval_alike patch config.balloon) in
     let count = ap (λ (n : ℕ). length config.drives + length config.interfaces + vsock_count config.vsock + n) (interval_count patch config.balloon) in
-=======
-    let kinds = kinds_alike config.drives config.drives config.interfaces config.interfaces config.balloon after.balloon refl refl (interval_alike patch config.balloon) in
-    let count = ap (λ (n : ℕ). length config.drives + length config.interfaces + n) (interval_count patch config.balloon) in
->>>>>>> m
     reconfigured config after paused taken refl refl kinds count guest is
 
 -- ---- a device is told of a change

@@ -1,9 +1,5 @@
 -- How much memory a start makes, how large the disks of its drives are, and that what isn't refused fits.
-<<<<<<< 8bde38ab
 use Rattle.std.proofs.Common.{◌≡◌, ◌≤◌, ◌<◌, ℕ, ◌+◌, ◌-◌, ◌^◌, Bool, true, false, not, if◌then◌else◌, get_or, refl, subst, ◌∙◌, List, length, replicate, Option, Some, None, arith}
-=======
-use Rattle.std.proofs.Common.{◌≡◌, ◌≤◌, ◌<◌, ℕ, ◌+◌, ◌-◌, ◌^◌, Bool, true, false, not, if◌then◌else◌, get_or, refl, subst, ◌∙◌, List, ◌++◌, length, take, drop, replicate, Option, Some, None, arith, length-append, length-drop, length-take}
->>>>>>> m
 use Rattle.std.specs.Prelude.{is_none, option_map}
 use Rattle.std.specs.FinMap.{get}
 use Rattle.std.specs.List.{All}
@@ -14,11 +10,7 @@ use Rattle.vm_types.specs.Saved.{Saved}
 use Rattle.refusals.specs.declared.refusal.Refusal.{Refusal}
 use Rattle.refusals.specs.declared.refusal.Refusal.TheVariants as refusal
 use Rattle.vm_config.specs.declared.config.Config.{Config}
-<<<<<<< 8bde38ab
 use Rattle.vm_config.specs.Devices.{Configured, devices_of, of_balloon, of_drive, of_interface, of_vsock}
-=======
-use Rattle.vm_config.specs.Devices.{Configured, devices_of, of_balloon, of_drive, of_interface}
->>>>>>> m
 use Rattle.api_rules.specs.Table.{fits_by, is_missing, len_of}
 use Rattle.api_rules.specs.declared.actions.InitrdFile.{InitrdFile}
 use Rattle.guest_memory.specs.Memory.{put_at}
@@ -89,10 +81,7 @@ few_sectors (Some bytes) = omega arith
 device_fits : (saved : Saved) (d : Configured) → FitsNew (device_from saved d)
 device_fits saved (of_drive d) = few_sectors (get saved d.path_on_host)
 device_fits saved (of_interface i) = tt
-<<<<<<< 8bde38ab
 device_fits saved (of_vsock v) = tt
-=======
->>>>>>> m
 device_fits saved (of_balloon b) = tt
 
 pub devices_fit : (config : Config) (saved : Saved) → All FitsNew (devices_from config saved)

@@ -1,14 +1,8 @@
 -- The lines of a script are small: a file's content and a host object's bytes are bytes, and numbers have 64 bits.
-<<<<<<< 8bde38ab
 use Rattle.std.proofs.Common.{◌≡◌, ◌<◌, ◌^◌, ◌++◌, ℕ, suc, zero, Bool, true, false, refl, if◌then◌else◌, List, [], ◌∷◌, length, map, take, Option, Some, None, arith}
 use Rattle.std.specs.Prelude.{nat_le}
 use Rattle.std.specs.List.{All}
 use Rattle.std.proofs.lemmas.Bool.{leb-true}
-=======
-use Rattle.std.proofs.Common.{◌≡◌, ◌<◌, ◌++◌, ℕ, suc, zero, Bool, true, false, refl, if◌then◌else◌, List, [], ◌∷◌, length, map, take, Option, Some, None, arith}
-use Rattle.std.specs.Prelude.{nat_le}
-use Rattle.std.specs.List.{All}
->>>>>>> m
 use Rattle.std.proofs.lemmas.List.Elements.{All-head, All-tail}
 use Rattle.vm_types.specs.declared.reply.Reply.{Reply}
 use Rattle.file_format.specs.Format.{IsBytes}
@@ -36,17 +30,10 @@ bytes_of [] all i = omega arith
 bytes_of (x ∷ xs) all zero = All-head (λ (b : ℕ). b < 256) x xs all
 bytes_of (x ∷ xs) all (suc i) = bytes_of xs (All-tail (λ (b : ℕ). b < 256) x xs all) i
 
-<<<<<<< 8bde38ab
 received_small : (few : Bool) (connection : ℕ) (bytes : List ℕ) → nat_le (length bytes) 64 ≡ few → connection < 2 ^ 32 → AreBytes bytes
     → IsSmallGiven (if few then Host (Reply.Received bytes connection) else Nothing)
 received_small true connection bytes is low all = (leb-true _ _ is, all, low)
 received_small false connection bytes is low all = tt
-=======
-received_small : (few : Bool) (connection : ℕ) (bytes : List ℕ) → AreBytes bytes
-    → IsSmallGiven (if few then Host (Reply.Received bytes connection) else Nothing)
-received_small true connection bytes all = all
-received_small false connection bytes all = tt
->>>>>>> m
 
 reply_small : (reply : HostReply) → HasAnswerForm reply → IsSmallGiven (reply_given reply)
 reply_small given.Done form = tt
@@ -55,18 +42,11 @@ reply_small given.Nothing form = tt
 reply_small (given.Now nanoseconds) form = form
 reply_small (given.Part piece) form = form.1
 reply_small (given.Frame len) form = tt
-<<<<<<< 8bde38ab
 reply_small (given.Opened connection) form = form
 reply_small (given.Received connection bytes) form =
     received_small (nat_le (length bytes) 64) connection bytes refl form.0 form.1
 reply_small (given.Ended connection) form = tt
 reply_small (given.Dialled connection) form = form
-=======
-reply_small (given.Opened connection) form = tt
-reply_small (given.Received connection bytes) form = received_small (nat_le (length bytes) 64) connection bytes form.1
-reply_small (given.Ended connection) form = tt
-reply_small (given.Dialled connection) form = tt
->>>>>>> m
 
 item_small : (it : Item) → HasForm it → IsSmallItem it
 item_small item.Nothing form = tt

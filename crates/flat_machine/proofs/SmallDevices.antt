@@ -19,7 +19,6 @@ use Rattle.api_calls.specs.declared.interface.Interface.{Interface}
 use Rattle.api_calls.specs.declared.interface.InterfacePatch.{InterfacePatch}
 use Rattle.api_calls.specs.declared.limiter.BucketConfig.{BucketConfig}
 use Rattle.api_calls.specs.declared.limiter.Limiter.{Limiter}
-<<<<<<< 8bde38ab
 use Rattle.api_calls.specs.declared.vsock.Vsock.{Vsock}
 use Rattle.api_calls.specs.Drives.{is_root}
 use Rattle.api_calls.specs.Form.{holds, is_id_byte, is_path}
@@ -29,15 +28,6 @@ use Rattle.vm_config.specs.Devices.{Configured, balloon_devices, devices_of, of_
 use Rattle.vm_config.specs.Drives.{in_order}
 use Rattle.rate_gate.specs.Small.{AreSmallLimits, AreSmallOthers, IsSmallBucket}
 use Rattle.vsock_device.specs.Small.{IsSmallConnection}
-=======
-use Rattle.api_calls.specs.Drives.{is_root}
-use Rattle.api_calls.specs.Form.{holds, is_id_byte}
-use Rattle.api_calls.specs.Limits.{is_bucket, is_limiter}
-use Rattle.vm_config.specs.declared.config.Config.{Config}
-use Rattle.vm_config.specs.Devices.{Configured, balloon_devices, devices_of, of_balloon, of_drive, of_interface}
-use Rattle.vm_config.specs.Drives.{in_order}
-use Rattle.rate_gate.specs.Small.{AreSmallLimits, AreSmallOthers, IsSmallBucket}
->>>>>>> m
 use Rattle.balloon_device.proofs.SmallEntries.{none_small}
 use Rattle.guest_devices.specs.declared.change.DeviceChange.{DeviceChange}
 use Rattle.guest_devices.specs.declared.new_device.NewDevice.TheVariants as kinds
@@ -48,18 +38,11 @@ use Rattle.flat_guest.specs.Narrow as narrow
 use Rattle.flat_guest.proofs.Savable.{AreShown, get_all}
 use Rattle.flat_guest.specs.Savable.{IsSizedPort}
 use Rattle.flat_guest.proofs.Widths.{widths_told}
-<<<<<<< 8bde38ab
 use Rattle.snap_state.specs.Valid.{is_balloon, is_drive, is_interface, is_vsock}
 use Rattle.snap_state.proofs.Texts.{all_ascii, bucket_parts, drive_parts, drives_of, interface_parts, links_of}
 use Rattle.flat_machine.specs.Balloon.{interval_told, new_balloon, target_in, target_of}
 use Rattle.flat_machine.specs.Interfaces.{new_net}
 use Rattle.flat_machine.specs.Vsock.{new_vsock}
-=======
-use Rattle.snap_state.specs.Valid.{is_balloon, is_drive, is_interface}
-use Rattle.snap_state.proofs.Texts.{all_ascii, bucket_parts, drive_parts, drives_of, interface_parts, links_of}
-use Rattle.flat_machine.specs.Balloon.{interval_told, new_balloon, target_in, target_of}
-use Rattle.flat_machine.specs.Interfaces.{new_net}
->>>>>>> m
 use Rattle.flat_machine.specs.Limits.{bucket_of, limits_of, limits_told, receives_told, transmits_told}
 use Rattle.flat_machine.specs.Ready.{IsTaken}
 use Rattle.flat_machine.specs.Requests.{device_from, devices_from, drive_from, relimited, resized, retargeted, retimed, sectors_of, shows_by, told_at}
@@ -188,7 +171,6 @@ interfaces_narrow saved (i ∷ interfaces) are =
     All-cons (λ (i : Interface). IsNarrowNew (device_from saved (of_interface i))) i interfaces (interface_narrow i both.0)
     (interfaces_narrow saved interfaces both.1)
 
-<<<<<<< 8bde38ab
 vsock_narrow : (v : Vsock) → is_vsock v ≡ true → IsNarrowNew (kinds.Vsock (new_vsock v))
 vsock_narrow v is =
     let named = and_parts _ (is_path v.uds_path) is in
@@ -209,8 +191,6 @@ vsocks_narrow saved (Some v) is =
     let P : Configured → Type 0 = λ c. IsNarrowNew (device_from saved c) in
     All-cons P (of_vsock v) [] (vsock_narrow v is) (All-nil P)
 
-=======
->>>>>>> m
 balloons_narrow : (saved : Saved) (mib : ℕ) (balloon : Option Balloon) → holds (is_balloon mib) balloon ≡ true
     → All (λ (c : Configured). IsNarrowNew (device_from saved c)) (balloon_devices balloon)
 balloons_narrow saved mib None is = All-nil (λ (c : Configured). IsNarrowNew (device_from saved c))
@@ -225,19 +205,12 @@ devices_narrow config saved taken =
     let interfaces = interfaces_narrow saved config.interfaces (links_of config.interfaces taken.interfaces) in
     let balloon = balloons_narrow saved config.machine.mem_size_mib config.balloon taken.balloon in
     All-map IsNarrowNew (device_from saved) (devices_of config)
-<<<<<<< 8bde38ab
     (All-append P (map of_drive (in_order config.drives))
     (map of_interface config.interfaces ++ (vsock_devices config.vsock ++ balloon_devices config.balloon))
     (All-map P of_drive (in_order config.drives) drives)
     (All-append P (map of_interface config.interfaces) (vsock_devices config.vsock ++ balloon_devices config.balloon)
     (All-map P of_interface config.interfaces interfaces)
     (All-append P (vsock_devices config.vsock) (balloon_devices config.balloon) (vsocks_narrow saved config.vsock taken.vsock) balloon)))
-=======
-    (All-append P (map of_drive (in_order config.drives)) (map of_interface config.interfaces ++ balloon_devices config.balloon)
-    (All-map P of_drive (in_order config.drives) drives)
-    (All-append P (map of_interface config.interfaces) (balloon_devices config.balloon)
-    (All-map P of_interface config.interfaces interfaces) balloon))
->>>>>>> m
 
 -- ---- what a PATCH tells
 

@@ -17,11 +17,7 @@ use Rattle.vm_config.specs.declared.change.Change.{Change}
 use Rattle.vm_config.specs.declared.change.Change.TheVariants as change
 use Rattle.api_rules.specs.declared.answer.Answer.{Answer}
 use Rattle.api_rules.specs.Answers.{accepted, refused}
-<<<<<<< 8bde38ab
 use Rattle.responses.specs.Responses.{Response}
-=======
-use Rattle.response_form.specs.Responses.{Response}
->>>>>>> m
 use Rattle.guest_devices.specs.declared.device.Device.{Device}
 use Rattle.file_format.specs.Identities.{is_numbered}
 use Rattle.flat_guest.specs.Changes.{reset_guest}
@@ -75,18 +71,12 @@ some_change (change.PutInterface interface) m given is ready fields = ([], confi
 some_change (change.PatchInterface patch) m given is ready fields =
     ([], configured (patched_interface m patch) (change.PatchInterface patch), (refl, refl))
 some_change (change.MachineConfig machine) m given is ready fields = ([], configured m (change.MachineConfig machine), (refl, refl))
-<<<<<<< 8bde38ab
 some_change (change.PutVsock vsock) m given is ready fields = ([], configured m (change.PutVsock vsock), (refl, refl))
-=======
->>>>>>> m
 some_change (change.PutBalloon balloon) m given is ready fields = ([], configured m (change.PutBalloon balloon), (refl, refl))
 some_change (change.PatchBalloon patch) m given is ready fields = ([], configured (patched_balloon m patch) (change.PatchBalloon patch), (refl, refl))
 some_change (change.PatchStatistics patch) m given is ready fields =
     ([], configured (patched_statistics m patch) (change.PatchStatistics patch), (refl, refl))
-<<<<<<< 8bde38ab
 some_change (change.MmdsConfig mmds) m given is ready fields = ([], configured m (change.MmdsConfig mmds), (refl, refl))
-=======
->>>>>>> m
 some_change (change.PutMetadata body) m given is ready fields = let left = some_store (put body) m in ([], left.0, (refl, left.1))
 some_change (change.PatchMetadata patch) m given is ready fields = let left = some_store (patched m.metadata patch) m in ([], left.0, (refl, left.1))
 some_change change.Start m given is ready fields = ([], configured (started_from (image_of m) (disk_of m) m) change.Start, (refl, refl))

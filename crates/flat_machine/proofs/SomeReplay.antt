@@ -34,11 +34,7 @@ use Rattle.flat_machine.specs.Outcome.{AreAnswered, Outcome}
 use Rattle.flat_machine.specs.Outcome.Outcome.{Answered}
 use Rattle.guest_devices.specs.declared.device.Device.{Device}
 use Rattle.http_stream.specs.declared.request.Next.{Next}
-<<<<<<< 8bde38ab
 use Rattle.responses.specs.Responses.{Response}
-=======
-use Rattle.response_form.specs.Responses.{Response}
->>>>>>> m
 use Rattle.flat_machine.specs.Machine.{Machine, console_of, drained, is_off, new_machine, running_by}
 use Rattle.flat_machine.specs.Items.{Answers, ItemStep, MemoryLine, Misfits, Moves, RegisterLine, Replies, RepliesLine, Shows, ShowsFrom, StepsLine, steps_text}
 use Rattle.flat_machine.specs.Replay.{IsEnd, IsReplay, closed, closing, judged_script}

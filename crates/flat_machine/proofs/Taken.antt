@@ -16,10 +16,7 @@ use Rattle.api_calls.specs.declared.call.BootSource.{BootSource}
 use Rattle.api_calls.specs.declared.call.Drive.{Drive}
 use Rattle.api_calls.specs.declared.call.MachineConfig.{MachineConfig}
 use Rattle.api_calls.specs.declared.interface.Interface.{Interface}
-<<<<<<< 8bde38ab
 use Rattle.api_calls.specs.declared.vsock.Vsock.{Vsock}
-=======
->>>>>>> m
 use Rattle.api_calls.specs.Call.{call_of}
 use Rattle.api_calls.specs.Form.{holds, is_path, is_short_text}
 use Rattle.api_calls.proofs.Asked.{IsAsked, asked_is}
@@ -33,11 +30,7 @@ use Rattle.vm_config.specs.Devices.{count_in, device_count}
 use Rattle.api_rules.specs.declared.ids.Ids.{Ids}
 use Rattle.api_rules.specs.Table.{amount_of, change_of, decision, is_beyond, misplaced, own_refusal, patched, unless, when_allowed}
 use Rattle.devtree.specs.Machine.{args_by}
-<<<<<<< 8bde38ab
 use Rattle.snap_state.specs.Valid.{are_paths, has_room, is_balloon, is_machine, is_source, is_valid, is_vsock}
-=======
-use Rattle.snap_state.specs.Valid.{are_paths, has_room, is_balloon, is_machine, is_source, is_valid}
->>>>>>> m
 use Rattle.snap_state.specs.declared.copy.StateCopy.{StateCopy}
 use Rattle.flat_snapshot.specs.Carried.{carried_config}
 use Rattle.flat_snapshot.specs.Copies.{source_of}
@@ -48,10 +41,7 @@ use Rattle.flat_machine.specs.Ready.{IsFitting, IsSourceBy, IsTaken}
 use Rattle.flat_machine.proofs.Allowed.{IsAllowed, not_refused, same_change}
 use Rattle.flat_machine.proofs.Drives.{length-patched, patch_told, put_told}
 use Rattle.flat_machine.proofs.Interfaces.{interface_put, limits_patched, many_patched}
-<<<<<<< 8bde38ab
 use Rattle.flat_machine.proofs.Mmds.{mmds_given, mmds_patched, mmds_put}
-=======
->>>>>>> m
 
 -- ---- within bounds
 
@@ -138,7 +128,6 @@ interval_patched mib patch (Some b) fits was =
     and_from _ _ parts.0 (lt-ltb patch.stats_polling_interval_s (2 ^ 16) fits)
 
 -- a patched balloon is as many devices
-<<<<<<< 8bde38ab
 amount_room : (drives : List Drive) (interfaces : List Interface) (vsock : Option Vsock) (patch : BalloonPatch) (balloon : Option Balloon)
     → has_room drives interfaces vsock (with_amount patch balloon) ≡ has_room drives interfaces vsock balloon
 amount_room drives interfaces vsock patch None = refl
@@ -171,26 +160,6 @@ cid_fits : (v : Vsock) → IsWithin 3 4294967294 v.guest_cid → is_path v.uds_p
 cid_fits v within named =
     let most = within.1 in
     and_from _ _ (and_from _ _ (le-leb 3 v.guest_cid within.0) (lt-ltb v.guest_cid 4294967295 (omega (arith, most)))) named
-=======
-amount_room : (drives : List Drive) (interfaces : List Interface) (patch : BalloonPatch) (balloon : Option Balloon)
-    → has_room drives interfaces (with_amount patch balloon) ≡ has_room drives interfaces balloon
-amount_room drives interfaces patch None = refl
-amount_room drives interfaces patch (Some b) = refl
-
-interval_room : (drives : List Drive) (interfaces : List Interface) (patch : StatisticsPatch) (balloon : Option Balloon)
-    → has_room drives interfaces (with_interval patch balloon) ≡ has_room drives interfaces balloon
-interval_room drives interfaces patch None = refl
-interval_room drives interfaces patch (Some b) = refl
-
--- there is room for a balloon where there is one, or room for one device more
-balloon_room : (drives : List Drive) (interfaces : List Interface) (new : Balloon) (old : Option Balloon)
-    → has_room drives interfaces old ≡ true → (is_none old && nat_le 16 (count_in drives interfaces old)) ≡ false
-    → has_room drives interfaces (Some new) ≡ true
-balloon_room drives interfaces new None fits room =
-    let less = leb-false 16 (count_in drives interfaces None) room in
-    le-leb (count_in drives interfaces (Some new)) 16 (omega (arith, less))
-balloon_room drives interfaces new (Some b) fits room = fits
->>>>>>> m
 
 paths_are : (path : Option (List ℕ)) → holds is_path path ≡ true → are_paths path ≡ true
 paths_are None is = refl
@@ -208,7 +177,6 @@ module _ (p : Phase) (config : Config) (ids : Ids) (taken : IsTaken config) wher
       (and_from (is_path source.kernel_image_path) (are_paths source.initrd_path) asked.0 (paths_are source.initrd_path asked.1))
       (and_from (nat_le (length source.boot_args) 2048) (is_utf8 source.boot_args) (le-leb (length source.boot_args) 2048 asked.2) asked.3)
   call_fits (call.PutDrive drive) asked own =
-<<<<<<< 8bde38ab
       put_told drive config.drives config.interfaces config.vsock config.balloon taken.drives taken.room (and_from _ _ (and_from _ _ asked.0 asked.1) asked.2)
       (first_row _ _ _ _ own) (second_row _ _ _ _ own)
   call_fits (call.PatchDrive patch) asked own = (asked.1, asked.2)
@@ -217,15 +185,6 @@ module _ (p : Phase) (config : Config) (ids : Ids) (taken : IsTaken config) wher
       (and_from _ _ (and_from _ _ (and_from _ _ (and_from _ _ asked.0 asked.1) asked.2) asked.3.0) asked.3.1)
       (only_row _ _ own) in
       (put.0, put.1, mmds_put interface config.interfaces config.mmds taken.mmds)
-=======
-      put_told drive config.drives config.interfaces config.balloon taken.drives taken.room (and_from _ _ (and_from _ _ asked.0 asked.1) asked.2)
-      (first_row _ _ _ _ own) (second_row _ _ _ _ own)
-  call_fits (call.PatchDrive patch) asked own = (asked.1, asked.2)
-  call_fits (call.PutInterface interface) asked own =
-      interface_put config.drives interface config.interfaces config.balloon taken.interfaces taken.room
-      (and_from _ _ (and_from _ _ (and_from _ _ (and_from _ _ asked.0 asked.1) asked.2) asked.3.0) asked.3.1)
-      (only_row _ _ own)
->>>>>>> m
   call_fits (call.PatchInterface patch) asked own = asked.1
   call_fits (call.PutMachineConfig machine) asked own = (
     machine_is machine asked.0 asked.1,
@@ -238,7 +197,6 @@ module _ (p : Phase) (config : Config) (ids : Ids) (taken : IsTaken config) wher
         amount_fits (patched config.machine patch).mem_size_mib config.machine.mem_size_mib config.balloon
             (within _ _ (only_row _ _ own)) taken.balloon,
       )
-<<<<<<< 8bde38ab
   call_fits (call.PutVsock vsock) asked own = (
     cid_fits vsock asked.0 asked.1,
     vsock_room config.drives config.interfaces vsock config.vsock config.balloon taken.room (only_row _ _ own),
@@ -251,15 +209,6 @@ module _ (p : Phase) (config : Config) (ids : Ids) (taken : IsTaken config) wher
   call_fits (call.PatchBalloon patch) asked own = within config.machine.mem_size_mib patch.amount_mib (second_row _ _ _ _ own)
   call_fits (call.PatchStatistics patch) asked own = asked
   call_fits (call.PutMmdsConfig mmds) asked own = mmds_given config.interfaces mmds asked.0 asked.1 (only_row _ _ own)
-=======
-  call_fits (call.PutBalloon balloon) asked own = (
-    and_from _ _ (le-leb balloon.amount_mib config.machine.mem_size_mib (within _ _ (first_row _ _ _ _ own)))
-        (lt-ltb balloon.stats_polling_interval_s (2 ^ 16) asked),
-    balloon_room config.drives config.interfaces balloon config.balloon taken.room (second_row _ _ _ _ own),
-  )
-  call_fits (call.PatchBalloon patch) asked own = within config.machine.mem_size_mib patch.amount_mib (second_row _ _ _ _ own)
-  call_fits (call.PatchStatistics patch) asked own = asked
->>>>>>> m
   call_fits (call.PutMetadata body) asked own = tt
   call_fits (call.PatchMetadata patch) asked own = tt
   call_fits call.InstanceStart asked own = tt
@@ -293,11 +242,8 @@ same_taken config taken = record {
   source = taken.source;
   drives = taken.drives;
   interfaces = taken.interfaces;
-<<<<<<< 8bde38ab
   vsock = taken.vsock;
   mmds = taken.mmds;
-=======
->>>>>>> m
   machine = taken.machine;
   balloon = taken.balloon;
   room = taken.room;
@@ -308,11 +254,8 @@ changed_taken config (change.BootSource source) taken fit = record {
   source = fit;
   drives = taken.drives;
   interfaces = taken.interfaces;
-<<<<<<< 8bde38ab
   vsock = taken.vsock;
   mmds = taken.mmds;
-=======
->>>>>>> m
   machine = taken.machine;
   balloon = taken.balloon;
   room = taken.room;
@@ -321,11 +264,8 @@ changed_taken config (change.PutDrive drive) taken fit = record {
   source = taken.source;
   drives = fit.0;
   interfaces = taken.interfaces;
-<<<<<<< 8bde38ab
   vsock = taken.vsock;
   mmds = taken.mmds;
-=======
->>>>>>> m
   machine = taken.machine;
   balloon = taken.balloon;
   room = fit.1;
@@ -334,11 +274,8 @@ changed_taken config (change.PatchDrive patch) taken fit = record {
   source = taken.source;
   drives = patch_told patch config.drives taken.drives fit.0 fit.1;
   interfaces = taken.interfaces;
-<<<<<<< 8bde38ab
   vsock = taken.vsock;
   mmds = taken.mmds;
-=======
->>>>>>> m
   machine = taken.machine;
   balloon = taken.balloon;
   room =
@@ -349,11 +286,8 @@ changed_taken config (change.PutInterface interface) taken fit = record {
   source = taken.source;
   drives = taken.drives;
   interfaces = fit.0;
-<<<<<<< 8bde38ab
   vsock = taken.vsock;
   mmds = fit.2;
-=======
->>>>>>> m
   machine = taken.machine;
   balloon = taken.balloon;
   room = fit.1;
@@ -362,11 +296,8 @@ changed_taken config (change.PatchInterface patch) taken fit = record {
   source = taken.source;
   drives = taken.drives;
   interfaces = limits_patched patch config.interfaces taken.interfaces fit.0 fit.1;
-<<<<<<< 8bde38ab
   vsock = taken.vsock;
   mmds = mmds_patched patch config.interfaces config.mmds taken.mmds;
-=======
->>>>>>> m
   machine = taken.machine;
   balloon = taken.balloon;
   room =
@@ -378,16 +309,12 @@ changed_taken config (change.MachineConfig machine) taken fit = record {
   source = taken.source;
   drives = taken.drives;
   interfaces = taken.interfaces;
-<<<<<<< 8bde38ab
   vsock = taken.vsock;
   mmds = taken.mmds;
-=======
->>>>>>> m
   machine = fit.0;
   balloon = fit.1;
   room = taken.room;
 }
-<<<<<<< 8bde38ab
 changed_taken config (change.PutVsock vsock) taken fit = record {
   source = taken.source;
   drives = taken.drives;
@@ -398,17 +325,12 @@ changed_taken config (change.PutVsock vsock) taken fit = record {
   balloon = taken.balloon;
   room = fit.1;
 }
-=======
->>>>>>> m
 changed_taken config (change.PutBalloon balloon) taken fit = record {
   source = taken.source;
   drives = taken.drives;
   interfaces = taken.interfaces;
-<<<<<<< 8bde38ab
   vsock = taken.vsock;
   mmds = taken.mmds;
-=======
->>>>>>> m
   machine = taken.machine;
   balloon = fit.0;
   room = fit.1;
@@ -417,23 +339,16 @@ changed_taken config (change.PatchBalloon patch) taken fit = record {
   source = taken.source;
   drives = taken.drives;
   interfaces = taken.interfaces;
-<<<<<<< 8bde38ab
   vsock = taken.vsock;
   mmds = taken.mmds;
   machine = taken.machine;
   balloon = amount_patched config.machine.mem_size_mib patch config.balloon fit taken.balloon;
   room = amount_room config.drives config.interfaces config.vsock patch config.balloon ∙ taken.room;
-=======
-  machine = taken.machine;
-  balloon = amount_patched config.machine.mem_size_mib patch config.balloon fit taken.balloon;
-  room = amount_room config.drives config.interfaces patch config.balloon ∙ taken.room;
->>>>>>> m
 }
 changed_taken config (change.PatchStatistics patch) taken fit = record {
   source = taken.source;
   drives = taken.drives;
   interfaces = taken.interfaces;
-<<<<<<< 8bde38ab
   vsock = taken.vsock;
   mmds = taken.mmds;
   machine = taken.machine;
@@ -449,11 +364,6 @@ changed_taken config (change.MmdsConfig mmds) taken fit = record {
   machine = taken.machine;
   balloon = taken.balloon;
   room = taken.room;
-=======
-  machine = taken.machine;
-  balloon = interval_patched config.machine.mem_size_mib patch config.balloon fit taken.balloon;
-  room = interval_room config.drives config.interfaces patch config.balloon ∙ taken.room;
->>>>>>> m
 }
 changed_taken config (change.PutMetadata body) taken fit = taken
 changed_taken config (change.PatchMetadata patch) taken fit = taken
@@ -474,11 +384,8 @@ configured_taken config is = record {
   source = source_taken config.boot_source is.source;
   drives = is.drives;
   interfaces = is.interfaces;
-<<<<<<< 8bde38ab
   vsock = is.vsock;
   mmds = is.mmds;
-=======
->>>>>>> m
   machine = is.machine;
   balloon = is.balloon;
   room = is.room;
@@ -491,11 +398,8 @@ taken_configured config source there taken = record {
       (subst (λ (o : Option BootSource). IsSourceBy o) there taken.source);
   drives = taken.drives;
   interfaces = taken.interfaces;
-<<<<<<< 8bde38ab
   vsock = taken.vsock;
   mmds = taken.mmds;
-=======
->>>>>>> m
   machine = taken.machine;
   balloon = taken.balloon;
   room = taken.room;
@@ -504,12 +408,8 @@ taken_configured config source there taken = record {
 -- ---- at first, and behind a load
 
 pub default_taken : IsTaken default_config
-<<<<<<< 8bde38ab
 default_taken =
     record { source = tt; drives = refl; interfaces = refl; vsock = refl; mmds = refl; machine = refl; balloon = refl; room = refl }
-=======
-default_taken = record { source = tt; drives = refl; interfaces = refl; machine = refl; balloon = refl; room = refl }
->>>>>>> m
 
 -- what goes on from a copy that a file can have; its bytes don't matter
 pub carried_taken : (tracking : Bool) (copy : StateCopy) → IsTrue (is_valid copy) → IsTaken (carried_config tracking copy.configuration)

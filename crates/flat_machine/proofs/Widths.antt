@@ -21,11 +21,7 @@ use Rattle.http_stream.specs.Stream.{Connection}
 use Rattle.http_stream.specs.declared.request.Next.{Next}
 use Rattle.http_stream.specs.Conversation.{Conversation, arrived}
 use Rattle.http_stream.specs.Sent.{sent}
-<<<<<<< 8bde38ab
 use Rattle.responses.specs.Responses.{Response}
-=======
-use Rattle.response_form.specs.Responses.{Response}
->>>>>>> m
 use Rattle.api_calls.specs.declared.call.BootSource.{BootSource}
 use Rattle.api_calls.specs.declared.call.SnapshotCreate.{SnapshotCreate}
 use Rattle.api_calls.specs.declared.call.SnapshotLoad.{SnapshotLoad}
@@ -271,12 +267,9 @@ leaves_widths (change.PutDrive drive) m n ready widths known is =
 leaves_widths (change.MachineConfig machine) m n ready widths known is =
     let it : Change = change.MachineConfig machine in
     widths_is (configured m it) n is (configures m it widths (λ on. allowed_later m it on known))
-<<<<<<< 8bde38ab
 leaves_widths (change.PutVsock vsock) m n ready widths known is =
     let it : Change = change.PutVsock vsock in
     widths_is (configured m it) n is (configures m it widths (λ on. allowed_later m it on known))
-=======
->>>>>>> m
 leaves_widths (change.PutBalloon balloon) m n ready widths known is =
     let it : Change = change.PutBalloon balloon in
     widths_is (configured m it) n is (configures m it widths (λ on. allowed_later m it on known))
@@ -297,12 +290,9 @@ leaves_widths (change.PatchStatistics patch) m n ready widths known is =
     let it : Change = change.PatchStatistics patch in
     let taken = changed_taken m.config it ready.taken (allowed_fits m it ready.taken known) in
     widths_is (configured (patched_statistics m patch) it) n is (interval_widths m patch ready widths taken)
-<<<<<<< 8bde38ab
 leaves_widths (change.MmdsConfig mmds) m n ready widths known is =
     let it : Change = change.MmdsConfig mmds in
     widths_is (configured m it) n is (configures m it widths (λ on. allowed_later m it on known))
-=======
->>>>>>> m
 leaves_widths change.Start m n ready widths known is =
     let none = (not_refused (start_refusal m.config m.saved) (Ok change.Start) change.Start known.contents).0 in
     widths_is (configured (started_from (image_of m) (disk_of m) m) change.Start) n is
@@ -428,18 +418,11 @@ item_widths (item.Memory at len) outcomes m n text ready widths small good x = m
 
 pub has_fields : (m : Machine) → Ready m → HasWidths m → HasFields m
 has_fields m ready widths g there numbered =
-<<<<<<< 8bde38ab
     let had = guest_ready m g ready there in
     let own = reset_ready m.config m.paused g had in
     let within = bounded m.config ready.taken in
     let is = subst (λ (o : Option Guest). WidthsBy m.saved m.config o) there widths.guest in
     fitting_copy m.config (next_identity m) g had.sound own.sound own.ready within.mib
-=======
-    let own = reset_ready m.config m.paused g (guest_ready m g ready there) in
-    let within = bounded m.config ready.taken in
-    let is = subst (λ (o : Option Guest). WidthsBy m.saved m.config o) there widths.guest in
-    fitting_copy m.config (next_identity m) (reset_guest g) own.sound own.ready within.mib
->>>>>>> m
     (widths_reset _ _ (few_pages m ready) g is) widths.lineage numbered
 
 -- a new machine, of files of bytes

@@ -2,10 +2,7 @@ pub mod Balloon
 pub mod Between
 pub mod Given
 pub mod Interfaces
-<<<<<<< 8bde38ab
 pub mod Vsock
-=======
->>>>>>> m
 pub mod Items
 pub mod Limits
 pub mod Machine

@@ -6,11 +6,8 @@ use Rattle.api_calls.specs.declared.balloon.Balloon.{Balloon}
 use Rattle.api_calls.specs.declared.call.BootSource.{BootSource}
 use Rattle.api_calls.specs.declared.call.Drive.{Drive}
 use Rattle.api_calls.specs.declared.interface.Interface.{Interface}
-<<<<<<< 8bde38ab
 use Rattle.api_calls.specs.declared.mmds.MmdsConfig.{MmdsConfig}
 use Rattle.api_calls.specs.declared.vsock.Vsock.{Vsock}
-=======
->>>>>>> m
 use Rattle.api_calls.specs.Form.{holds, is_path}
 use Rattle.api_calls.specs.Limits.{is_limiter}
 use Rattle.vm_config.specs.declared.config.Config.{Config}
@@ -22,11 +19,7 @@ use Rattle.guest_memory.specs.Ram.{page_size}
 use Rattle.flat_guest.specs.Changes.{reset_guest}
 use Rattle.flat_guest.specs.Guest.{Guest}
 use Rattle.flat_guest.specs.Sound.{IsSound}
-<<<<<<< 8bde38ab
 use Rattle.snap_state.specs.Valid.{are_drives, are_interfaces, has_room, is_balloon, is_machine, is_mmds, is_source, is_valid, is_vsock}
-=======
-use Rattle.snap_state.specs.Valid.{are_drives, are_interfaces, has_room, is_balloon, is_machine, is_source, is_valid}
->>>>>>> m
 use Rattle.snap_state.specs.declared.copy.StateCopy.{StateCopy}
 use Rattle.file_format.specs.Identities.{is_numbered}
 use Rattle.file_format.specs.Versions.{current_version}
@@ -42,19 +35,13 @@ IsSourceBy None = Unit {0}
 IsSourceBy (Some source) = is_source (source_of (Some source)) ≡ true
 
 -- what is configured is as the API takes it: the boot source, if there is one; the drives, which are told apart, and of
-<<<<<<< 8bde38ab
 -- which one at most is the root drive; the interfaces, which are told apart; the vsock device, if there is one; where metadata are given,
 -- at interfaces that are there; how many harts and how much memory there is; the balloon, if there is one, which takes no more than that;
 -- and no more devices than there may be
-=======
--- which one at most is the root drive; the interfaces, which are told apart; how many harts and how much memory there is; the balloon, if there is one, which takes no
--- more than that; and no more devices than there may be
->>>>>>> m
 pub record IsTaken (config : Config) : Type 0 where
   pub source : IsSourceBy config.boot_source
   pub drives : are_drives config.drives ≡ true
   pub interfaces : are_interfaces config.interfaces ≡ true
-<<<<<<< 8bde38ab
   pub vsock : holds is_vsock config.vsock ≡ true
   pub mmds : holds (is_mmds config.interfaces) config.mmds ≡ true
   pub machine : is_machine config.machine ≡ true
@@ -69,41 +56,19 @@ AreFitting drives interfaces vsock balloon = (are_drives drives ≡ true) × (ha
 abbrev pub AreLinked : List Drive → List Interface → Option Vsock → Option Balloon → Option MmdsConfig → Type 0
 AreLinked drives interfaces vsock balloon mmds =
     (are_interfaces interfaces ≡ true) × (has_room drives interfaces vsock balloon ≡ true) × (holds (is_mmds interfaces) mmds ≡ true)
-=======
-  pub machine : is_machine config.machine ≡ true
-  pub balloon : holds (is_balloon config.machine.mem_size_mib) config.balloon ≡ true
-  pub room : has_room config.drives config.interfaces config.balloon ≡ true
-
--- these drives fit beside the interfaces, and a balloon, if there is one
-abbrev pub AreFitting : List Drive → List Interface → Option Balloon → Type 0
-AreFitting drives interfaces balloon = (are_drives drives ≡ true) × (has_room drives interfaces balloon ≡ true)
-
--- and so do these interfaces
-abbrev pub AreLinked : List Drive → List Interface → Option Balloon → Type 0
-AreLinked drives interfaces balloon = (are_interfaces interfaces ≡ true) × (has_room drives interfaces balloon ≡ true)
->>>>>>> m
 
 -- a change leaves it so
 abbrev pub IsFitting : Config → Change → Type 0
 IsFitting config (change.BootSource source) = is_source (source_of (Some source)) ≡ true
-<<<<<<< 8bde38ab
 IsFitting config (change.PutDrive drive) = AreFitting (put_drive config.drives drive) config.interfaces config.vsock config.balloon
 IsFitting config (change.PatchDrive patch) =
     (holds is_path patch.path_on_host ≡ true) × (holds is_limiter patch.rate_limiter ≡ true)
 IsFitting config (change.PutInterface interface) =
     AreLinked config.drives (put_interface config.interfaces interface) config.vsock config.balloon config.mmds
-=======
-IsFitting config (change.PutDrive drive) = AreFitting (put_drive config.drives drive) config.interfaces config.balloon
-IsFitting config (change.PatchDrive patch) =
-    (holds is_path patch.path_on_host ≡ true) × (holds is_limiter patch.rate_limiter ≡ true)
-IsFitting config (change.PutInterface interface) =
-    AreLinked config.drives (put_interface config.interfaces interface) config.balloon
->>>>>>> m
 IsFitting config (change.PatchInterface patch) =
     (holds is_limiter patch.rx_rate_limiter ≡ true) × (holds is_limiter patch.tx_rate_limiter ≡ true)
 IsFitting config (change.MachineConfig machine) =
     (is_machine machine ≡ true) × (holds (is_balloon machine.mem_size_mib) config.balloon ≡ true)
-<<<<<<< 8bde38ab
 IsFitting config (change.PutVsock vsock) =
     (is_vsock vsock ≡ true) × (has_room config.drives config.interfaces (Some vsock) config.balloon ≡ true)
 IsFitting config (change.PutBalloon balloon) =
@@ -111,12 +76,6 @@ IsFitting config (change.PutBalloon balloon) =
 IsFitting config (change.PatchBalloon patch) = patch.amount_mib ≤ config.machine.mem_size_mib
 IsFitting config (change.PatchStatistics patch) = patch.stats_polling_interval_s < 2 ^ 16
 IsFitting config (change.MmdsConfig mmds) = is_mmds config.interfaces mmds ≡ true
-=======
-IsFitting config (change.PutBalloon balloon) =
-    (is_balloon config.machine.mem_size_mib balloon ≡ true) × (has_room config.drives config.interfaces (Some balloon) ≡ true)
-IsFitting config (change.PatchBalloon patch) = patch.amount_mib ≤ config.machine.mem_size_mib
-IsFitting config (change.PatchStatistics patch) = patch.stats_polling_interval_s < 2 ^ 16
->>>>>>> m
 IsFitting config it = Unit {0}
 
 -- The guest is never stuck, and has what is configured. Where it stands still, its timer is at its start.

@@ -27,21 +27,13 @@ use Rattle.api_calls.specs.declared.call.SnapshotLoad.{SnapshotLoad}
 use Rattle.api_calls.specs.declared.call.VmState.TheVariants.{Paused, Resumed}
 use Rattle.api_calls.specs.declared.interface.InterfacePatch.{InterfacePatch}
 use Rattle.api_calls.specs.declared.limiter.Limiter.{Limiter}
-<<<<<<< 8bde38ab
-use Rattle.api_calls.specs.Call.{call_of}
-=======
 use Rattle.api_calls.specs.Call.{call_of, ◌>>=◌}
->>>>>>> m
 use Rattle.metadata_store.specs.Store.{patched, put}
 use Rattle.vm_config.specs.declared.config.Config.{Config}
 use Rattle.vm_config.specs.declared.change.Change.{Change}
 use Rattle.vm_config.specs.declared.change.Change.TheVariants as change
 use Rattle.vm_config.specs.Changes.{changed, with_amount, with_interval}
-<<<<<<< 8bde38ab
 use Rattle.vm_config.specs.Devices.{Configured, balloon_device, devices_of, interface_device, of_balloon, of_drive, of_interface, of_vsock}
-=======
-use Rattle.vm_config.specs.Devices.{Configured, balloon_device, devices_of, interface_device, of_balloon, of_drive, of_interface}
->>>>>>> m
 use Rattle.vm_config.specs.Drives.{device_of}
 use Rattle.vm_config.specs.Texts.{Told}
 use Rattle.api_rules.specs.declared.answer.Answer.{Answer}
@@ -53,11 +45,7 @@ use Rattle.api_rules.specs.Table.{boot_refusal, decision, unless}
 use Rattle.guest_memory.specs.Boot.{Loads, initrd_start}
 use Rattle.devtree.specs.declared.machine.InitrdPlace.{InitrdPlace}
 use Rattle.devtree.specs.Machine.{tree_bytes}
-<<<<<<< 8bde38ab
 use Rattle.responses.specs.Responses.{Response}
-=======
-use Rattle.response_form.specs.Responses.{Response}
->>>>>>> m
 use Rattle.port_table.specs.declared.state.PortState.{PortState}
 use Rattle.guest_devices.specs.declared.change.DeviceChange.{DeviceChange}
 use Rattle.guest_devices.specs.declared.device.Device.{Device}
@@ -77,10 +65,7 @@ use Rattle.flat_snapshot.specs.Files.{calls_of, head_of, saved_pages, state_file
 use Rattle.flat_snapshot.specs.Found.{Snapshot, found}
 use Rattle.flat_machine.specs.Balloon.{TellsBalloon, interval_told, new_balloon, target_in}
 use Rattle.flat_machine.specs.Interfaces.{new_net}
-<<<<<<< 8bde38ab
 use Rattle.flat_machine.specs.Vsock.{new_vsock}
-=======
->>>>>>> m
 use Rattle.flat_machine.specs.Limits.{limits_of, limits_told, receives_told, transmits_told}
 use Rattle.flat_machine.specs.Outcome.{Left, Outcome, nothing_left}
 use Rattle.flat_machine.specs.Outcome.Outcome.{Answered, Failed, NoMemory}
@@ -222,10 +207,7 @@ drive_from saved d = kinds.Block (record {
 abbrev pub device_from : Saved → Configured → NewDevice
 device_from saved (of_drive d) = drive_from saved d
 device_from saved (of_interface i) = kinds.Net (new_net i)
-<<<<<<< 8bde38ab
 device_from saved (of_vsock v) = kinds.Vsock (new_vsock v)
-=======
->>>>>>> m
 device_from saved (of_balloon b) = kinds.Balloon (new_balloon b)
 
 abbrev pub devices_from : Config → Saved → List NewDevice
@@ -365,17 +347,11 @@ Leaves m (change.PutDrive drive) n = n ≡ configured m (change.PutDrive drive)
 Leaves m (change.PatchDrive patch) n = n ≡ configured (patched_drive m patch) (change.PatchDrive patch)
 Leaves m (change.PutInterface interface) n = n ≡ configured m (change.PutInterface interface)
 Leaves m (change.PatchInterface patch) n = n ≡ configured (patched_interface m patch) (change.PatchInterface patch)
-<<<<<<< 8bde38ab
 Leaves m (change.PutVsock vsock) n = n ≡ configured m (change.PutVsock vsock)
 Leaves m (change.PutBalloon balloon) n = n ≡ configured m (change.PutBalloon balloon)
 Leaves m (change.PatchBalloon patch) n = n ≡ configured (patched_balloon m patch) (change.PatchBalloon patch)
 Leaves m (change.PatchStatistics patch) n = n ≡ configured (patched_statistics m patch) (change.PatchStatistics patch)
 Leaves m (change.MmdsConfig mmds) n = n ≡ configured m (change.MmdsConfig mmds)
-=======
-Leaves m (change.PutBalloon balloon) n = n ≡ configured m (change.PutBalloon balloon)
-Leaves m (change.PatchBalloon patch) n = n ≡ configured (patched_balloon m patch) (change.PatchBalloon patch)
-Leaves m (change.PatchStatistics patch) n = n ≡ configured (patched_statistics m patch) (change.PatchStatistics patch)
->>>>>>> m
 Leaves m (change.PutMetadata body) n = Stores (put body) m n
 Leaves m (change.PatchMetadata patch) n = Stores (patched m.metadata patch) m n
 Leaves m change.Start n = n ≡ configured (started_from (image_of m) (disk_of m) m) change.Start

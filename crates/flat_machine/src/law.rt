@@ -22,11 +22,7 @@ ghost use Rattle.guest_memory.specs.Ram.{page_size};
 ghost use Rattle.guest_devices.specs.declared.device.Device.{Device};
 ghost use Rattle.flat_guest.specs.Changes.{reset_guest};
 ghost use Rattle.flat_guest.specs.Guest.{Guest};
-<<<<<<< 8bde38ab
 ghost use Rattle.responses.specs.Responses.{Response};
-=======
-ghost use Rattle.response_form.specs.Responses.{Response};
->>>>>>> m
 ghost use Rattle.snap_state.specs.declared.copy.StateCopy.{StateCopy};
 ghost use Rattle.flat_snapshot.specs.Bytes.{AreBytes};
 ghost use Rattle.flat_snapshot.specs.Copies.{IsCopyOf};

@@ -205,11 +205,8 @@ module _ (copy : StateCopy) (bytes : List ℕ) (tracking : Bool) (valid : IsTrue
           source = rules.source;
           drives = rules.drives;
           interfaces = rules.interfaces;
-<<<<<<< 8bde38ab
           vsock = rules.vsock;
           mmds = rules.mmds;
-=======
->>>>>>> m
           machine = machine_parts.0;
           balloon = rules.balloon;
           room = rules.room;

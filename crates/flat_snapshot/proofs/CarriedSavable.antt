@@ -10,11 +10,7 @@ use Rattle.vm_types.specs.Fits.{fits}
 use Rattle.le_fields.specs.Fields.{IsByte, bytes_of}
 use Rattle.le_fields.proofs.Values.{all_bytes}
 use Rattle.file_format.specs.Kinds.{byte, number16, number64}
-<<<<<<< 8bde38ab
 use Rattle.file_format.specs.declared.version.Version.{Version}
-=======
-use Rattle.file_format.specs.Versions.{Version}
->>>>>>> m
 use Rattle.file_format.specs.Whole.{counted}
 use Rattle.file_format.proofs.Fitting.{every, of16, of32, of64, of8, of_list, of_times}
 use Rattle.board_table.specs.declared.hart_state.HartState.{HartState}

@@ -5,11 +5,7 @@ use Rattle.std.proofs.lemmas.Bool.{and_parts}
 use Rattle.std.proofs.lemmas.List.Elements.{All-head, All-tail}
 use Rattle.le_fields.specs.Fields.{IsByte}
 use Rattle.file_format.specs.Format.{IsBytes}
-<<<<<<< 8bde38ab
 use Rattle.file_format.specs.declared.version.Version.{Version}
-=======
-use Rattle.file_format.specs.Versions.{Version}
->>>>>>> m
 use Rattle.file_format.specs.Ends.{listed}
 use Rattle.file_format.proofs.Fitting.{of_list}
 use Rattle.guest_memory.specs.Ram.{page_size}

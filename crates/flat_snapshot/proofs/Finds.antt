@@ -1,15 +1,8 @@
 -- What a load finds: a copy that a state file can have, and all of its pages.
-<<<<<<< 8bde38ab
 use Rattle.std.proofs.Common.{◌≡◌, ℕ, ◌+◌, ◌*◌, Bool, true, false, if◌then◌else◌, List, length, take, drop, length-drop, Option, Some, None, Result, Ok, Err, refl, ap, subst, arith}
 use Rattle.std.specs.Prelude.{IsTrue}
 use Rattle.std.specs.FinMap.{get}
 use Rattle.std.proofs.lemmas.Bool.{eqb-true, and_parts, not-false}
-=======
-use Rattle.std.proofs.Common.{◌≡◌, ℕ, ◌+◌, ◌*◌, Bool, true, false, not, if◌then◌else◌, List, length, take, drop, length-drop, Option, Some, None, Result, Ok, Err, refl, ap, subst, arith}
-use Rattle.std.specs.Prelude.{IsTrue}
-use Rattle.std.specs.FinMap.{get}
-use Rattle.std.proofs.lemmas.Bool.{eqb-true, and_parts}
->>>>>>> m
 use Rattle.vm_types.specs.Saved.{Saved}
 use Rattle.vm_types.specs.declared.identity.Identity.{Identity}
 use Rattle.refusals.specs.declared.refusal.Refusal.{Refusal}
@@ -63,11 +56,7 @@ judged_size : (i : Identity) (pages size : ℕ) (h : MemHeader) → memory_judge
 judged_size i pages size h is =
     let one = passes _ _ _ tt is in
     let two = passes _ _ _ tt one.1 in
-<<<<<<< 8bde38ab
     eqb-true size (4096 + page_size * pages) (and_parts _ _ (not-false _ two.0)).1
-=======
-    eqb-true size (4096 + page_size * pages) (and_parts _ _ (not_false _ two.0)).1
->>>>>>> m
 
 read_size : (i : Identity) (pages size : ℕ) (o : Option (MemHeader × List ℕ)) → memory_read i pages size o ≡ Ok tt → size ≡ 4096 + page_size * pages
 read_size i pages size None is = absurd cc

@@ -32,11 +32,7 @@ use Rattle.snap_harts.specs.Copy.{saved_hart}
 use Rattle.snap_harts.specs.Harts.{hart}
 use Rattle.snap_harts.proofs.Fits.{hart_fits}
 use Rattle.snap_state.specs.declared.copy.StateCopy.{StateCopy}
-<<<<<<< 8bde38ab
 use Rattle.snap_state.specs.Copies.{devices, reservation, section, sections_in, state_copy}
-=======
-use Rattle.snap_state.specs.Copies.{devices, reservation, state_copy}
->>>>>>> m
 use Rattle.snap_state.specs.Files.{contents, contents_of}
 use Rattle.snap_state.specs.Valid.{is_machine, is_valid}
 use Rattle.snap_state.proofs.Fits.{board_fits, reservations_fit}
@@ -119,11 +115,7 @@ module _ (config : Config) (g : Guest) (copy : StateCopy) (own : Identity) (of :
 
   few_links : length config.interfaces ≤ most_ports
   few_links =
-<<<<<<< 8bde38ab
       let room = leb-true (count_in config.drives config.interfaces config.vsock config.balloon) most_ports rules.room in
-=======
-      let room = leb-true (count_in config.drives config.interfaces config.balloon) most_ports rules.room in
->>>>>>> m
       omega (arith, room)
 
   machine : is_machine config.machine ≡ true
@@ -142,11 +134,7 @@ module _ (config : Config) (g : Guest) (copy : StateCopy) (own : Identity) (of :
       savable.each i start h there (subst (λ (n : ℕ). LeadsTo start (g.steps (HartId n)) h) here leads)
 
   made_fits : (state_copy current_version).Fits made
-<<<<<<< 8bde38ab
   unfolding state_copy devices sections_in
-=======
-  unfolding state_copy devices
->>>>>>> m
   made_fits =
       let at = attached made rules in
       let ports = at.ports in
@@ -156,11 +144,7 @@ module _ (config : Config) (g : Guest) (copy : StateCopy) (own : Identity) (of :
       let many = eqb-true (length made.harts) config.machine.vcpu_count rules.many in
       let held = slots in (
         (
-<<<<<<< 8bde38ab
           configuration_fits (configuration_of config) rules.source rules.drives rules.interfaces few_links rules.vsock rules.mmds machine rules.balloon,
-=======
-          configuration_fits (configuration_of config) rules.source rules.drives rules.interfaces few_links machine rules.balloon,
->>>>>>> m
           (fits32 made.pages (omega (arith, few)), (fits_flag made.track_dirty_pages, fits64 g.board.now savable.board.now)),
         ),
         (
@@ -177,11 +161,7 @@ module _ (config : Config) (g : Guest) (copy : StateCopy) (own : Identity) (of :
                 (
                   fits_list reservation made.reservations (omega (arith, held))
                       (reservations_fit made.pages config.machine.vcpu_count made.reservations (omega (arith, few)) harts rules.reservations),
-<<<<<<< 8bde38ab
                   fits_list section [] (omega arith) (All-nil section.Fits),
-=======
-                  refl,
->>>>>>> m
                 ),
               ),
             ),

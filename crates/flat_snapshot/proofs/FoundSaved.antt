@@ -10,12 +10,8 @@ use Rattle.api_calls.specs.declared.call.SnapshotFiles.{SnapshotFiles}
 use Rattle.le_fields.specs.Fields.{IsByte}
 use Rattle.file_format.specs.Format.{IsBytes}
 use Rattle.file_format.specs.Starts.{is_closed, is_other}
-<<<<<<< 8bde38ab
 use Rattle.file_format.specs.Versions.{version_of}
 use Rattle.file_format.specs.declared.version.Version.{Version}
-=======
-use Rattle.file_format.specs.Versions.{Version, version_of}
->>>>>>> m
 use Rattle.snap_devices.proofs.Held.{all_of}
 use Rattle.snap_diff.proofs.Tables.{bytes_behind}
 use Rattle.snap_state.specs.declared.copy.StateCopy.{StateCopy}

@@ -284,11 +284,8 @@ module _ (config : Config) (g : Guest) (sound : IsSound g) (is : IsReady config 
     source = is.configured.source;
     drives = is.configured.drives;
     interfaces = is.configured.interfaces;
-<<<<<<< 8bde38ab
     vsock = is.configured.vsock;
     mmds = is.configured.mmds;
-=======
->>>>>>> m
     machine = machine_is;
     balloon = is.configured.balloon;
     room = is.configured.room;

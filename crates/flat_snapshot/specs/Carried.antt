@@ -65,15 +65,10 @@ carried_config tracking c = record {
   });
   drives = c.drives;
   interfaces = c.interfaces;
-<<<<<<< 8bde38ab
   vsock = c.vsock;
   machine = record c.machine { track_dirty_pages = tracking };
   balloon = c.balloon;
   mmds = c.mmds;
-=======
-  machine = record c.machine { track_dirty_pages = tracking };
-  balloon = c.balloon;
->>>>>>> m
   configured = true;
 }
 

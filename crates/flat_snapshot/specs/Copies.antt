@@ -56,15 +56,10 @@ configuration_of config = record {
   boot_source = source_of config.boot_source;
   drives = config.drives;
   interfaces = config.interfaces;
-<<<<<<< 8bde38ab
   vsock = config.vsock;
   machine = config.machine;
   balloon = config.balloon;
   mmds = config.mmds;
-=======
-  machine = config.machine;
-  balloon = config.balloon;
->>>>>>> m
 }
 
 -- the copy of a guest whose harts are where these are, with this kept of its devices

@@ -5,11 +5,7 @@ use Rattle.vm_config.specs.declared.config.Config.{Config}
 use Rattle.vm_config.specs.Devices.{device_count}
 use Rattle.flat_guest.specs.Guest.{Guest}
 use Rattle.flat_guest.specs.Shaped.{IsShaped}
-<<<<<<< 8bde38ab
 use Rattle.snap_state.specs.Valid.{are_drives, are_interfaces, has_room, is_balloon, is_machine, is_mmds, is_source, is_vsock, kinds_of}
-=======
-use Rattle.snap_state.specs.Valid.{are_drives, are_interfaces, has_room, is_balloon, is_machine, is_source, kinds_of}
->>>>>>> m
 use Rattle.flat_snapshot.specs.Copies.{configuration_of, source_of}
 
 -- as the API takes it, with what is booted
@@ -17,17 +13,11 @@ pub record IsConfigured (config : Config) : Type 0 where
   pub source : is_source (source_of config.boot_source) ≡ true
   pub drives : are_drives config.drives ≡ true
   pub interfaces : are_interfaces config.interfaces ≡ true
-<<<<<<< 8bde38ab
   pub vsock : holds is_vsock config.vsock ≡ true
   pub mmds : holds (is_mmds config.interfaces) config.mmds ≡ true
   pub machine : is_machine config.machine ≡ true
   pub balloon : holds (is_balloon config.machine.mem_size_mib) config.balloon ≡ true
   pub room : has_room config.drives config.interfaces config.vsock config.balloon ≡ true
-=======
-  pub machine : is_machine config.machine ≡ true
-  pub balloon : holds (is_balloon config.machine.mem_size_mib) config.balloon ≡ true
-  pub room : has_room config.drives config.interfaces config.balloon ≡ true
->>>>>>> m
 
 -- the guest has its harts and its pages, 256 for each MiB, a port of each kind that is configured, and as many devices
 pub record IsReady (config : Config) (g : Guest) : Type 0 where

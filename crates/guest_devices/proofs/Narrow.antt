@@ -25,11 +25,8 @@ use Rattle.rate_gate.proofs.SmallLimits.{others_small}
 use Rattle.net_device.specs.declared.kind.NetChange.TheVariants.{Receives, Transmits}
 use Rattle.net_device.proofs.Narrow as net
 use Rattle.net_device.proofs.Resuming as net_resuming
-<<<<<<< 8bde38ab
 use Rattle.vsock_device.proofs.Narrow as vsock
 use Rattle.vsock_device.proofs.Resuming as vsock_resuming
-=======
->>>>>>> m
 use Rattle.balloon_device.specs.declared.kind.BalloonChange.TheVariants.{Interval}
 use Rattle.balloon_device.proofs.Narrow as balloon
 use Rattle.balloon_device.proofs.Resuming as balloon_resuming
@@ -40,13 +37,8 @@ use Rattle.guest_devices.specs.declared.device.Device.TheVariants as device
 use Rattle.guest_devices.specs.declared.new_device.NewDevice.{NewDevice}
 use Rattle.guest_devices.specs.Devices.{DataOf, DeviceLeads, DeviceLeft, DeviceWants, FlatDevice, device_at, device_changed, device_did}
 use Rattle.guest_devices.specs.Devices.{device_next, device_reset, device_rules, device_told, device_wants, left_of, left_reset, left_told, new_device, new_left}
-<<<<<<< 8bde38ab
 use Rattle.guest_devices.specs.Kept.{IsBounded, IsBoundedDevice, KeptDevice, device_left, device_pages, device_port, is_device_state, is_state_kept, left_by}
 use Rattle.guest_devices.specs.Kinds.{Balloon, Block, ChangeOf, FitsChange, IsSizedOf, IsSmallChange, Kind, Net, OwnOf, Vsock, calls_of, change_for, changing_of, is_sized_work_of}
-=======
-use Rattle.guest_devices.specs.Kept.{IsBounded, IsBoundedDevice, KeptDevice, device_left, device_pages, device_port, is_device_state, is_state_kept, kept_of, left_by}
-use Rattle.guest_devices.specs.Kinds.{Balloon, Block, ChangeOf, FitsChange, IsSizedOf, IsSmallChange, Kind, Net, OwnOf, calls_of, change_for, changing_of, hand_of, is_sized_work_of}
->>>>>>> m
 use Rattle.guest_devices.specs.Kinds.{own_at_start, reset_for, service_of, sized_hand_of, sized_in, stage_in, times_of}
 use Rattle.guest_devices.specs.Narrow.{HasNarrow, IsNarrow, IsNarrowDevice, IsNarrowKept, IsNarrowNew, LeavesSized, NarrowLaws}
 use Rattle.guest_devices.proofs.Follows.{at_start, did_leads, reset_leads, told_leads, wants_only}
@@ -100,7 +92,6 @@ net_laws = record {
   state = λ p r g is. is;
 }
 
-<<<<<<< 8bde38ab
 vsock_changed : (change : DeviceChange) → FitsChange change → IsSmallChange change → LeavesSized Vsock (change_for change Vsock)
 vsock_changed (changes.Block c) fits small = tt
 vsock_changed (changes.Net c) fits small = tt
@@ -119,8 +110,6 @@ vsock_laws = record {
   state = λ p r g is. is;
 }
 
-=======
->>>>>>> m
 balloon_changed : (change : DeviceChange) → FitsChange change → IsSmallChange change → LeavesSized Balloon (change_for change Balloon)
 balloon_changed (changes.Balloon (Interval seconds)) fits small =
     λ e was. (balloon.interval_small seconds e small was, balloon.interval_small seconds e small was)
@@ -143,10 +132,7 @@ balloon_laws = record {
 narrow_laws : (k : Kind) → NarrowLaws k
 narrow_laws Block = block_laws
 narrow_laws Net = net_laws
-<<<<<<< 8bde38ab
 narrow_laws Vsock = vsock_laws
-=======
->>>>>>> m
 narrow_laws Balloon = balloon_laws
 
 -- ---- from data to data
@@ -292,7 +278,6 @@ narrow_at (device.Net n) is bounded narrow = (
     left = refl;
   },
 )
-<<<<<<< 8bde38ab
 narrow_at (device.Vsock v) is bounded narrow = (
   device_left (device.Vsock v),
   at_start (device_left (device.Vsock v)),
@@ -310,8 +295,6 @@ narrow_at (device.Vsock v) is bounded narrow = (
     left = refl;
   },
 )
-=======
->>>>>>> m
 narrow_at (device.Balloon b) is bounded narrow = (
   device_left (device.Balloon b),
   at_start (device_left (device.Balloon b)),

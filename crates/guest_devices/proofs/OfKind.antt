@@ -7,15 +7,9 @@ use Rattle.device_trace.specs.States.{changed_at, next, wants}
 use Rattle.guest_devices.specs.declared.change.DeviceChange.{DeviceChange}
 use Rattle.guest_devices.specs.declared.device.Device.{Device}
 use Rattle.guest_devices.specs.declared.new_device.NewDevice.{NewDevice}
-<<<<<<< 8bde38ab
 use Rattle.guest_devices.specs.Devices.{DataOf, DeviceLeft, FitsNew, device_changed, device_next, device_rules, device_wants, left_of, left_reset, left_told}
 use Rattle.guest_devices.specs.Kept.{device_left, is_kept}
 use Rattle.guest_devices.specs.Kinds.{ChangeOf, Kind, change_for, reset_for}
-=======
-use Rattle.guest_devices.specs.Devices.{DataOf, DeviceLeft, FitsNew, device_changed, device_next, device_rules, device_wants, left_of, left_told}
-use Rattle.guest_devices.specs.Kept.{device_left, is_kept}
-use Rattle.guest_devices.specs.Kinds.{ChangeOf, Kind, change_for}
->>>>>>> m
 
 module _ (k : Kind) where
   pub want_is : (t : Script (DataOf k)) (op : Op) → op ≡ wants (device_rules k) t → (d : Device) → device_left d ≡ left_of k t
@@ -34,15 +28,12 @@ module _ (k : Kind) where
       after ∙ ap (left_of k) is ∙ ap (left_told (left_of k t)) (sym told)
       ∙ ap (λ (x : DeviceLeft). device_changed change x) (sym before)
 
-<<<<<<< 8bde38ab
   -- the Reset, of a kind that is told of it
   pub reset_is : (t u : Script (DataOf k)) (c : ChangeOf k) → u ≡ changed_at (device_rules k) c t → reset_for k ≡ Some c → (d e : Device)
       → device_left d ≡ left_of k t → device_left e ≡ left_of k u → device_left e ≡ left_reset (device_left d)
   reset_is t u c is told d e before after =
       after ∙ ap (left_of k) is ∙ ap (left_told (left_of k t)) (sym told) ∙ ap left_reset (sym before)
 
-=======
->>>>>>> m
   -- a change of another kind is none
   pub other_is : (t : Script (DataOf k)) (change : DeviceChange) → change_for change k ≡ None → (d e : Device)
       → device_left d ≡ left_of k t → device_left e ≡ left_of k t → device_left e ≡ device_changed change (device_left d)

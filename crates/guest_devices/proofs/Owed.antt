@@ -1,9 +1,5 @@
 -- What is owed of each kind.
-<<<<<<< 8bde38ab
 use Rattle.std.proofs.Common.{◌≡◌, ◌^◌, None, refl}
-=======
-use Rattle.std.proofs.Common.{◌≡◌, ◌^◌, true, refl}
->>>>>>> m
 use Rattle.std.proofs.lemmas.Bool.{lt-ltb, ltb-true}
 use Rattle.queue_device.specs.declared.lanes.Rounds.{Rounds}
 use Rattle.queue_device.specs.declared.device.QueueRounds.{QueueRounds}
@@ -25,7 +21,6 @@ use Rattle.balloon_device.specs.Balloon as balloons
 use Rattle.balloon_device.specs.Work.{Kept}
 use Rattle.balloon_device.proofs.Balloon as balloon
 use Rattle.balloon_device.proofs.Resuming as balloon_resuming
-<<<<<<< 8bde38ab
 use Rattle.vsock_device.specs.declared.data.Vsock.{Vsock as VsockData}
 use Rattle.vsock_device.specs.declared.kind.Stage.{Stage as VsockStage}
 use Rattle.vsock_device.specs.declared.kind.VsockKind.{VsockKind}
@@ -35,15 +30,6 @@ use Rattle.guest_devices.specs.declared.change.DeviceChange.{DeviceChange}
 use Rattle.guest_devices.specs.declared.change.DeviceChange.TheVariants as changes
 use Rattle.guest_devices.specs.declared.device.Device.TheVariants as device
 use Rattle.guest_devices.specs.Kinds.{Balloon, Block, FitsChange, Kind, Net, Vsock, change_for}
-=======
-use Rattle.guest_devices.specs.declared.change.DeviceChange.{DeviceChange}
-use Rattle.guest_devices.specs.declared.change.DeviceChange.TheVariants as changes
-use Rattle.guest_devices.specs.declared.device.Device.{Device}
-use Rattle.guest_devices.specs.declared.device.Device.TheVariants as device
-use Rattle.guest_devices.specs.Devices.{left_reset}
-use Rattle.guest_devices.specs.Kept.{device_left, is_kept, kept_reset}
-use Rattle.guest_devices.specs.Kinds.{Balloon, Block, FitsChange, Kind, Net, change_for}
->>>>>>> m
 use Rattle.guest_devices.specs.Sound.{KindLaws, LeavesFine}
 
 -- ---- a block device
@@ -93,7 +79,6 @@ net_laws = record {
   held = λ p r e g is. (device.Net (net_with p r e g), refl);
 }
 
-<<<<<<< 8bde38ab
 -- ---- a vsock device
 
 pub vsock_unchanged : (change : DeviceChange) → change_for change Vsock ≡ None
@@ -120,8 +105,6 @@ vsock_laws = record {
   held = λ p r e g is. (device.Vsock (vsock_with p r e g), refl);
 }
 
-=======
->>>>>>> m
 -- ---- a balloon
 
 -- another interval
@@ -149,20 +132,5 @@ balloon_laws = record {
 pub laws : (k : Kind) → KindLaws k
 laws Block = block_laws
 laws Net = net_laws
-<<<<<<< 8bde38ab
 laws Vsock = vsock_laws
 laws Balloon = balloon_laws
-=======
-laws Balloon = balloon_laws
-
--- what is kept of a device behind a Reset may be kept, and tells what it has still to do then
-pub reset_kept : (it : Device) → is_kept it ≡ true → is_kept (kept_reset it) ≡ true
-reset_kept (device.Block b) is = is
-reset_kept (device.Net n) is = is
-reset_kept (device.Balloon b) is = is
-
-pub reset_left : (it : Device) → device_left (kept_reset it) ≡ left_reset (device_left it)
-reset_left (device.Block b) = refl
-reset_left (device.Net n) = refl
-reset_left (device.Balloon b) = refl
->>>>>>> m

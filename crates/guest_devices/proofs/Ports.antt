@@ -1,9 +1,5 @@
 -- Each field of a new device's port has its width.
-<<<<<<< 8bde38ab
 use Rattle.std.proofs.Common.{◌≡◌, ◌<◌, ◌^◌, ◌==◌, ℕ, Bool, true, false, not, refl, arith, Option, Some, None, unwrap_or}
-=======
-use Rattle.std.proofs.Common.{◌≡◌, ◌<◌, ◌^◌, ◌==◌, ℕ, Bool, true, false, not, refl, arith, Option, Some, None, unwrap_or, List, ◌++◌}
->>>>>>> m
 use Rattle.std.proofs.lemmas.List.Elements.{All-append}
 use Rattle.std.proofs.lemmas.Nat.{or_lt}
 use Rattle.le_fields.specs.Fields.{IsByte, bytes_of}
@@ -16,11 +12,8 @@ use Rattle.port_table.specs.Sizes.{IsKept}
 use Rattle.port_table.proofs.Sizes.{new_stays}
 use Rattle.net_device.specs.declared.new_net.NewNet.{NewNet}
 use Rattle.net_device.specs.Port as net
-<<<<<<< 8bde38ab
 use Rattle.vsock_device.specs.declared.new_vsock.NewVsock.{NewVsock}
 use Rattle.vsock_device.specs.Port as vsock
-=======
->>>>>>> m
 use Rattle.balloon_device.specs.declared.new_balloon.NewBalloon.{NewBalloon}
 use Rattle.balloon_device.specs.Port as balloon
 use Rattle.guest_devices.specs.declared.drive.NewDrive.{NewDrive}
@@ -54,14 +47,11 @@ mac_small (Some mac) =
 net_kept : (n : NewNet) → IsKept numbers.Net (net.net_port n)
 net_kept n = new_stays numbers.Net (net.offered n) (net.config_of n.mac) (mac_small n.mac) (all_bytes 8 (unwrap_or n.mac 0))
 
-<<<<<<< 8bde38ab
 -- ---- a vsock device
 
 vsock_kept : (v : NewVsock) → IsKept numbers.Vsock (vsock.vsock_port v)
 vsock_kept v = new_stays numbers.Vsock 0 (vsock.config_of v.guest_cid) (omega arith) (all_bytes 8 v.guest_cid)
 
-=======
->>>>>>> m
 -- ---- a balloon
 
 balloon_small : (b : NewBalloon) → balloon.offered b < 2 ^ 64
@@ -80,17 +70,11 @@ balloon_kept b =
 pub start_kind : (what : NewDevice) → (port_at_start what).kind ≡ number_of (kind_at_start what)
 start_kind (starts.Block d) = refl
 start_kind (starts.Net n) = refl
-<<<<<<< 8bde38ab
 start_kind (starts.Vsock v) = refl
-=======
->>>>>>> m
 start_kind (starts.Balloon b) = refl
 
 pub start_kept : (what : NewDevice) → IsKept (port_at_start what).kind (port_at_start what)
 start_kept (starts.Block d) = block_kept d
 start_kept (starts.Net n) = net_kept n
-<<<<<<< 8bde38ab
 start_kept (starts.Vsock v) = vsock_kept v
-=======
->>>>>>> m
 start_kept (starts.Balloon b) = balloon_kept b

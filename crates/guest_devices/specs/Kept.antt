@@ -1,9 +1,5 @@
 -- What devices have still to do, by what the code keeps of them.
-<<<<<<< 8bde38ab
 use Rattle.std.specs.Prelude.{ℕ, ◌≡◌, ◌≤◌, ◌^◌, ◌&&◌, nat_le, nat_lt, Bool, true, false, Option, Some, None, List, [], ◌∷◌, length, map, slice_set}
-=======
-use Rattle.std.specs.Prelude.{ℕ, ◌≤◌, ◌^◌, ◌&&◌, nat_le, nat_lt, Bool, true, false, Option, Some, None, List, length, map, slice_set}
->>>>>>> m
 use Rattle.vm_types.specs.declared.op.Op.{Op}
 use Rattle.vm_types.specs.declared.reply.Reply.{Reply}
 use Rattle.queue_device.specs.declared.lanes.Rounds.{Rounds}
@@ -12,7 +8,6 @@ use Rattle.queue_device.specs.Chains.{Chain}
 use Rattle.queue_device.specs.Kept.{is_state}
 use Rattle.queue_device.specs.Left.{left_at, queued}
 use Rattle.queue_device.specs.Resuming.{AreShort}
-<<<<<<< 8bde38ab
 use Rattle.vsock_device.specs.Reset.{is_unconnected}
 use Rattle.guest_devices.specs.declared.device.Device.{Device}
 use Rattle.guest_devices.specs.declared.device.Device.TheVariants as device
@@ -51,42 +46,6 @@ is_saved (device.Balloon b) = true
 abbrev pub left_by : KeptDevice → DeviceLeft
 left_by d = left_of d.kind (left_at (service_of d.kind) d.phase (hand_of d.kind d.stage) (queued d.rounds d.own))
 
-=======
-use Rattle.guest_devices.specs.declared.device.Device.{Device}
-use Rattle.guest_devices.specs.declared.device.Device.TheVariants as device
-use Rattle.guest_devices.specs.Devices.{DeviceLeft, device_wants, device_next, left_of}
-use Rattle.guest_devices.specs.Kinds.{Balloon, Block, IsFineOf, Kind, Net, OwnOf, StageOf, hand_of, is_fine_of, is_work_of, service_of, times_of}
-
--- what is kept of a device: what it is at, its rounds, its data and its kind's work
-pub record KeptDevice : Type 0 where
-  pub kind : Kind
-  pub phase : Phase
-  pub rounds : Rounds
-  pub own : OwnOf kind
-  pub stage : StageOf kind
-
--- ---- a line a kind
-
-abbrev pub kept_of : Device → KeptDevice
-kept_of (device.Block b) =
-    record { kind = Block; phase = b.phase; rounds = b.rounds; own = b.kind.facts; stage = b.kind.work }
-kept_of (device.Net n) =
-    record { kind = Net; phase = n.phase; rounds = n.rounds; own = n.kind.own; stage = n.kind.doing }
-kept_of (device.Balloon b) =
-    record { kind = Balloon; phase = b.phase; rounds = b.rounds; own = b.kind.own; stage = b.kind.stage }
-
--- what is kept of a device behind a Reset
-abbrev pub kept_reset : Device → Device
-kept_reset (device.Block b) = device.Block b
-kept_reset (device.Net n) = device.Net n
-kept_reset (device.Balloon b) = device.Balloon b
-
--- ---- of any kind
-
-abbrev pub left_by : KeptDevice → DeviceLeft
-left_by d = left_of d.kind (left_at (service_of d.kind) d.phase (hand_of d.kind d.stage) (queued d.rounds d.own))
-
->>>>>>> m
 abbrev pub device_left : Device → DeviceLeft
 device_left d = left_by (kept_of d)
 
@@ -125,7 +84,6 @@ is_sized d = is_fine_of d.kind d.own && nat_lt d.rounds.pages (2 ^ 32) && are_sh
 -- such data may be kept of a device: it may be in this state, and each size is one that its field holds
 abbrev pub is_kept : Device → Bool
 is_kept d = is_state_kept (kept_of d) && is_sized (kept_of d)
-<<<<<<< 8bde38ab
 
 -- this is kept of a device behind the Reset that comes before a create
 abbrev pub IsReset : Device → Device → Type 0
@@ -137,8 +95,6 @@ AreReset [] [] = Unit {0}
 AreReset [] (now ∷ others) = ⊥
 AreReset (it ∷ devices) [] = ⊥
 AreReset (it ∷ devices) (now ∷ others) = IsReset it now × AreReset devices others
-=======
->>>>>>> m
 
 -- the number of its port, and how many pages its guest has
 abbrev pub device_port : Device → ℕ

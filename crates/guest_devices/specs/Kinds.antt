@@ -1,9 +1,5 @@
 -- The kinds of devices that a guest may have: each table has a line a kind.
-<<<<<<< 8bde38ab
 use Rattle.std.specs.Prelude.{ℕ, ◌<◌, ◌^◌, nat_lt, Bool, true, Option, Some, None, [], false}
-=======
-use Rattle.std.specs.Prelude.{ℕ, ◌<◌, ◌^◌, nat_lt, Bool, true, Option, Some, None, []}
->>>>>>> m
 use Rattle.vm_types.specs.declared.op.OutOp.{OutOp}
 use Rattle.device_trace.specs.Acts.{is_disk_call}
 use Rattle.device_trace.specs.Traces.{Changing, setting}
@@ -23,7 +19,6 @@ use Rattle.net_device.specs.declared.kind.NetChange.{NetChange}
 use Rattle.net_device.specs.declared.kind.NetChange.TheVariants.{Receives, Transmits}
 use Rattle.net_device.specs.Net as nets
 use Rattle.net_device.specs.Work as net_work
-<<<<<<< 8bde38ab
 use Rattle.vsock_device.specs.declared.data.VsockChange.{VsockChange}
 use Rattle.vsock_device.specs.declared.data.VsockChange.TheVariants.{Reset}
 use Rattle.vsock_device.specs.declared.data.Vsock.{Vsock as VsockData}
@@ -33,8 +28,6 @@ use Rattle.vsock_device.specs.Reset.{resetting}
 use Rattle.vsock_device.specs.Small as vsock_small
 use Rattle.vsock_device.specs.Vsock as vsocks
 use Rattle.vsock_device.specs.Work as vsock_work
-=======
->>>>>>> m
 use Rattle.balloon_device.specs.declared.kind.BalloonChange.{BalloonChange}
 use Rattle.balloon_device.specs.declared.kind.BalloonChange.TheVariants.{Interval}
 use Rattle.balloon_device.specs.declared.kind.Stage.{Stage}
@@ -49,10 +42,7 @@ use Rattle.guest_devices.specs.declared.new_device.NewDevice.TheVariants as star
 pub data Kind : Type 0 where
   Block : Kind
   Net : Kind
-<<<<<<< 8bde38ab
   Vsock : Kind
-=======
->>>>>>> m
   Balloon : Kind
 
 -- ---- what a device of this kind is
@@ -61,60 +51,42 @@ pub data Kind : Type 0 where
 abbrev pub OwnOf : Kind → Type 0
 OwnOf Block = BlockData
 OwnOf Net = nets.Net
-<<<<<<< 8bde38ab
 OwnOf Vsock = VsockData
-=======
->>>>>>> m
 OwnOf Balloon = balloons.Balloon
 
 -- what is changed of it from outside
 abbrev pub ChangeOf : Kind → Type 0
 ChangeOf Block = BlockChange
 ChangeOf Net = NetChange
-<<<<<<< 8bde38ab
 ChangeOf Vsock = VsockChange
-=======
->>>>>>> m
 ChangeOf Balloon = BalloonChange
 
 -- what it does with its queues
 abbrev pub service_of : (k : Kind) → Service (OwnOf k)
 service_of Block = block
 service_of Net = nets.net
-<<<<<<< 8bde38ab
 service_of Vsock = vsocks.vsock
-=======
->>>>>>> m
 service_of Balloon = balloons.balloon
 
 -- what a change makes of it
 abbrev pub changing_of : (k : Kind) → Changing (OwnOf k) (ChangeOf k)
 changing_of Block = setting changed
 changing_of Net = setting nets.limited
-<<<<<<< 8bde38ab
 changing_of Vsock = resetting
-=======
->>>>>>> m
 changing_of Balloon = setting balloons.changed
 
 -- the calls of its host object
 abbrev pub calls_of : Kind → OutOp → Bool
 calls_of Block = is_disk_call
 calls_of Net = nets.is_link_call
-<<<<<<< 8bde38ab
 calls_of Vsock = vsocks.is_host_call
-=======
->>>>>>> m
 calls_of Balloon = balloons.no_call
 
 -- a chain of it may wait for guest time
 abbrev pub times_of : Kind → Bool
 times_of Block = true
 times_of Net = true
-<<<<<<< 8bde38ab
 times_of Vsock = false
-=======
->>>>>>> m
 times_of Balloon = true
 
 -- ---- what it starts with
@@ -122,29 +94,19 @@ times_of Balloon = true
 abbrev pub kind_at_start : NewDevice → Kind
 kind_at_start (starts.Block d) = Block
 kind_at_start (starts.Net n) = Net
-<<<<<<< 8bde38ab
 kind_at_start (starts.Vsock v) = Vsock
-=======
->>>>>>> m
 kind_at_start (starts.Balloon b) = Balloon
 
 abbrev pub own_at_start : (what : NewDevice) → OwnOf (kind_at_start what)
 own_at_start (starts.Block d) =
     record { sectors = d.sectors; drive_id = d.drive_id; is_read_only = d.is_read_only; limits = d.limits }
 own_at_start (starts.Net n) = record { text = []; rx = n.rx; tx = n.tx }
-<<<<<<< 8bde38ab
 own_at_start (starts.Vsock v) = new_data v.guest_cid
-=======
->>>>>>> m
 own_at_start (starts.Balloon w) = record { interval = w.interval; last = 0; statistics = no_statistics }
 
 -- ---- what it is told of
 
-<<<<<<< 8bde38ab
 -- the change that this is to a device of its kind; to one of another kind it is none. The API changes nothing of a vsock device.
-=======
--- the change that this is to a device of its kind; to one of another kind it is none
->>>>>>> m
 abbrev pub change_for : DeviceChange → (k : Kind) → Option (ChangeOf k)
 change_for (changes.Block c) Block = Some c
 change_for (changes.Net c) Net = Some c
@@ -177,10 +139,7 @@ FitsChange (changes.Balloon c) = Unit {0}
 abbrev pub reset_for : (k : Kind) → Option (ChangeOf k)
 reset_for Block = None
 reset_for Net = None
-<<<<<<< 8bde38ab
 reset_for Vsock = Some Reset
-=======
->>>>>>> m
 reset_for Balloon = None
 
 -- ---- what its code keeps
@@ -189,48 +148,33 @@ reset_for Balloon = None
 abbrev pub StageOf : Kind → Type 0
 StageOf Block = block_working.Working
 StageOf Net = net_work.AtWork
-<<<<<<< 8bde38ab
 StageOf Vsock = VsockStage
-=======
->>>>>>> m
 StageOf Balloon = Stage
 
 abbrev pub hand_of : (k : Kind) → StageOf k → Hand (OwnOf k)
 hand_of Block = block_working.hand_of
 hand_of Net = net_work.hand_of
-<<<<<<< 8bde38ab
 hand_of Vsock = vsock_work.hand_of
-=======
->>>>>>> m
 hand_of Balloon = balloon_work.hand_of
 
 -- it may be there
 abbrev pub is_work_of : (k : Kind) → Work → ℕ → StageOf k → Bool
 is_work_of Block = block_kept.is_work
 is_work_of Net = net_work.is_work
-<<<<<<< 8bde38ab
 is_work_of Vsock = vsock_work.is_work
-=======
->>>>>>> m
 is_work_of Balloon = balloon_work.is_work
 
 -- it may have such data, as a fact and as a test
 abbrev pub IsFineOf : (k : Kind) → OwnOf k → Type 0
 IsFineOf Block e = e.sectors < 2 ^ 64
 IsFineOf Net e = net_work.AnyNet e
-<<<<<<< 8bde38ab
 IsFineOf Vsock e = vsock_work.AnyVsock e
-=======
->>>>>>> m
 IsFineOf Balloon e = balloon_work.AnyBalloon e
 
 abbrev pub is_fine_of : (k : Kind) → OwnOf k → Bool
 is_fine_of Block e = nat_lt e.sectors (2 ^ 64)
 is_fine_of Net e = true
-<<<<<<< 8bde38ab
 is_fine_of Vsock e = true
-=======
->>>>>>> m
 is_fine_of Balloon e = true
 
 -- ---- what it keeps where each reply was small
@@ -239,66 +183,45 @@ is_fine_of Balloon e = true
 abbrev pub IsSmallOf : (k : Kind) → StageOf k → Type 0
 IsSmallOf Block g = block_working.IsSmallWork g
 IsSmallOf Net g = net_work.IsSmallWork g
-<<<<<<< 8bde38ab
 IsSmallOf Vsock g = vsock_small.IsSmallStage g
-=======
->>>>>>> m
 IsSmallOf Balloon g = balloon_work.IsSmallStage g
 
 -- both
 abbrev pub SizedOf : Kind → Type 0
 SizedOf Block = block_working.SizedWork true
 SizedOf Net = net_work.SizedWork true
-<<<<<<< 8bde38ab
 SizedOf Vsock = vsock_small.SizedStage true
-=======
->>>>>>> m
 SizedOf Balloon = balloon_work.SizedStage true
 
 abbrev pub sized_in : (k : Kind) (g : StageOf k) → IsSmallOf k g → SizedOf k
 sized_in Block g small = record { work = g; small = λ yes. small }
 sized_in Net g small = record { work = g; small = λ yes. small }
-<<<<<<< 8bde38ab
 sized_in Vsock g small = record { stage = g; small = λ yes. small }
-=======
->>>>>>> m
 sized_in Balloon g small = record { stage = g; small = λ yes. small }
 
 abbrev pub stage_in : (k : Kind) → SizedOf k → StageOf k
 stage_in Block g = g.work
 stage_in Net g = g.work
-<<<<<<< 8bde38ab
 stage_in Vsock g = g.stage
-=======
->>>>>>> m
 stage_in Balloon g = g.stage
 
 abbrev pub sized_hand_of : (k : Kind) → SizedOf k → Hand (OwnOf k)
 sized_hand_of Block = block_working.sized_hand true
 sized_hand_of Net = net_work.sized_hand true
-<<<<<<< 8bde38ab
 sized_hand_of Vsock = vsock_small.sized_hand true
-=======
->>>>>>> m
 sized_hand_of Balloon = balloon_work.sized_hand true
 
 abbrev pub is_sized_work_of : (k : Kind) → Work → ℕ → SizedOf k → Bool
 is_sized_work_of Block = block_states.is_sized_work
 is_sized_work_of Net = net_work.is_sized_work true
-<<<<<<< 8bde38ab
 is_sized_work_of Vsock = vsock_small.is_sized_work true
-=======
->>>>>>> m
 is_sized_work_of Balloon = balloon_work.is_sized_work true
 
 -- its data
 abbrev pub IsSizedOf : (k : Kind) → OwnOf k → Type 0
 IsSizedOf Block = block_working.IsSizedData true
 IsSizedOf Net = net_work.IsSizedData true
-<<<<<<< 8bde38ab
 IsSizedOf Vsock = vsock_small.IsSizedData true
-=======
->>>>>>> m
 IsSizedOf Balloon = balloon_work.IsSizedData true
 
 -- and the numbers of a change that they don't fit by themselves

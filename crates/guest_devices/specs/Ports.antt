@@ -10,21 +10,14 @@ use Rattle.port_table.specs.Kinds.{feature_mask}
 use Rattle.port_table.specs.Ports.{new_port}
 use Rattle.block_device.specs.declared.kind.BlockChange.TheVariants.{Limits, Sectors}
 use Rattle.net_device.specs.Port.{net_port}
-<<<<<<< 8bde38ab
 use Rattle.vsock_device.specs.Port.{vsock_port}
-=======
->>>>>>> m
 use Rattle.balloon_device.specs.Port.{balloon_port}
 use Rattle.guest_devices.specs.declared.change.DeviceChange.{DeviceChange}
 use Rattle.guest_devices.specs.declared.change.DeviceChange.TheVariants as changes
 use Rattle.guest_devices.specs.declared.drive.NewDrive.{NewDrive}
 use Rattle.guest_devices.specs.declared.new_device.NewDevice.{NewDevice}
 use Rattle.guest_devices.specs.declared.new_device.NewDevice.TheVariants as starts
-<<<<<<< 8bde38ab
 use Rattle.guest_devices.specs.Kinds.{Balloon, Block, Kind, Net, Vsock}
-=======
-use Rattle.guest_devices.specs.Kinds.{Balloon, Block, Kind, Net}
->>>>>>> m
 
 -- ---- a block device
 
@@ -48,19 +41,13 @@ block_port d = new_port numbers.Block (offered d) (capacity d.sectors)
 abbrev pub number_of : Kind → DeviceKind
 number_of Block = numbers.Block
 number_of Net = numbers.Net
-<<<<<<< 8bde38ab
 number_of Vsock = numbers.Vsock
-=======
->>>>>>> m
 number_of Balloon = numbers.Balloon
 
 abbrev pub port_at_start : NewDevice → PortState
 port_at_start (starts.Block d) = block_port d
 port_at_start (starts.Net n) = net_port n
-<<<<<<< 8bde38ab
 port_at_start (starts.Vsock v) = vsock_port v
-=======
->>>>>>> m
 port_at_start (starts.Balloon b) = balloon_port b
 
 -- the configuration that the port shows from a change on, if it shows the change

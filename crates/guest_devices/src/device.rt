@@ -1,12 +1,7 @@
 // A device of any kind as an actor.
 ghost use Rattle.std.specs.Prelude.{◌≡◌, true};
-<<<<<<< 8bde38ab
 ghost use Rattle.guest_devices.specs.Devices.{device_changed, left_reset, new_left};
 ghost use Rattle.guest_devices.specs.Kept.{IsReset, device_left, device_pages, device_port, is_kept, is_saved, kept_of};
-=======
-ghost use Rattle.guest_devices.specs.Devices.{device_changed, new_left};
-ghost use Rattle.guest_devices.specs.Kept.{device_left, device_pages, device_port, is_kept, kept_of, kept_reset};
->>>>>>> m
 ghost use Rattle.guest_devices.specs.Ports.{number_of};
 
 use crate::balloon::{
@@ -16,12 +11,9 @@ use crate::block::{block_again, give_block, new_block, port_of_block, tell_block
 use crate::change::DeviceChange;
 use crate::net::{give_net, net_again, new_net, port_of_net, tell_net, want_of_net};
 use crate::new_device::NewDevice;
-<<<<<<< 8bde38ab
 use crate::vsock::{
     give_vsock, new_vsock, port_of_vsock, reset_vsock, tell_vsock, vsock_again, want_of_vsock,
 };
-=======
->>>>>>> m
 use balloon_device::BalloonDevice;
 use block_device::Block;
 use net_device::NetDevice;
@@ -34,10 +26,7 @@ use vsock_device::VsockDevice;
 pub enum Device {
     Block(Block),
     Net(NetDevice),
-<<<<<<< 8bde38ab
     Vsock(VsockDevice),
-=======
->>>>>>> m
     Balloon(BalloonDevice),
 }
 
@@ -49,10 +38,7 @@ impl Device {
         match what {
             NewDevice::Block(drive) => Device::Block(new_block(port, pages, drive)),
             NewDevice::Net(what) => Device::Net(new_net(port, pages, what)),
-<<<<<<< 8bde38ab
             NewDevice::Vsock(what) => Device::Vsock(new_vsock(port, pages, what)),
-=======
->>>>>>> m
             NewDevice::Balloon(what) => Device::Balloon(new_balloon(port, pages, what)),
         }
     }
@@ -65,10 +51,7 @@ impl Device {
         match self {
             Device::Block(block) => port_of_block(block),
             Device::Net(net) => port_of_net(net),
-<<<<<<< 8bde38ab
             Device::Vsock(vsock) => port_of_vsock(vsock),
-=======
->>>>>>> m
             Device::Balloon(balloon) => port_of_balloon(balloon),
         }
     }
@@ -80,10 +63,7 @@ impl Device {
         match self {
             Device::Block(_) => DeviceKind::Block,
             Device::Net(_) => DeviceKind::Net,
-<<<<<<< 8bde38ab
             Device::Vsock(_) => DeviceKind::Vsock,
-=======
->>>>>>> m
             Device::Balloon(_) => DeviceKind::Balloon,
         }
     }
@@ -95,10 +75,7 @@ impl Device {
         match self {
             Device::Block(block) => block.state().rounds.pages,
             Device::Net(net) => net.state().rounds.pages,
-<<<<<<< 8bde38ab
             Device::Vsock(vsock) => vsock.state().rounds.pages,
-=======
->>>>>>> m
             Device::Balloon(balloon) => balloon.state().rounds.pages,
         }
     }
@@ -111,34 +88,23 @@ impl Device {
         match self {
             Device::Block(block) => Device::Block(block_again(block)),
             Device::Net(net) => Device::Net(net_again(net)),
-<<<<<<< 8bde38ab
             Device::Vsock(vsock) => Device::Vsock(vsock_again(vsock)),
-=======
->>>>>>> m
             Device::Balloon(balloon) => Device::Balloon(balloon_again(balloon)),
         }
     }
 
-<<<<<<< 8bde38ab
     /// A change of its kind. One of another kind is none, and each is to a vsock device.
-=======
-    /// A change of its kind. One of another kind is none.
->>>>>>> m
     pub fn change(&mut self, change: DeviceChange)
         ensures { device_left self.new ≡ device_changed change (device_left self.old) }
     {
         match self {
             Device::Block(block) => tell_block(block, change),
             Device::Net(net) => tell_net(net, change),
-<<<<<<< 8bde38ab
             Device::Vsock(vsock) => tell_vsock(vsock, change),
-=======
->>>>>>> m
             Device::Balloon(balloon) => tell_balloon(balloon, change),
         }
     }
 
-<<<<<<< 8bde38ab
     fn reset_of_kind(&mut self)
         ensures { device_left self.new ≡ left_reset (device_left self.old) }
     {
@@ -147,14 +113,6 @@ impl Device {
             Device::Net(_) => {}
             Device::Vsock(vsock) => reset_vsock(vsock),
             Device::Balloon(_) => {}
-=======
-    /// The Reset that comes before a create, for a kind that is told of it.
-    pub fn reset(&mut self)
-        ensures { self.new ≡ kept_reset self.old }
-    {
-        match self {
-            Device::Block(_) | Device::Net(_) | Device::Balloon(_) => {}
->>>>>>> m
         }
     }
 
@@ -187,10 +145,7 @@ impl Actor for Device {
         match self {
             Device::Block(block) => want_of_block(block),
             Device::Net(net) => want_of_net(net),
-<<<<<<< 8bde38ab
             Device::Vsock(vsock) => want_of_vsock(vsock),
-=======
->>>>>>> m
             Device::Balloon(balloon) => want_of_balloon(balloon),
         }
     }
@@ -199,10 +154,7 @@ impl Actor for Device {
         match self {
             Device::Block(block) => give_block(block, reply),
             Device::Net(net) => give_net(net, reply),
-<<<<<<< 8bde38ab
             Device::Vsock(vsock) => give_vsock(vsock, reply),
-=======
->>>>>>> m
             Device::Balloon(balloon) => give_balloon(balloon, reply),
         }
     }

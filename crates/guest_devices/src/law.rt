@@ -15,23 +15,14 @@ ghost use Rattle.guest_devices.specs.declared.new_device.NewDevice.{NewDevice};
 ghost use Rattle.guest_devices.specs.Devices.{DataOf, DeviceLeads, DeviceLeft, DeviceWants, FitsNew, FlatDevice, device_at, device_calls};
 ghost use Rattle.guest_devices.specs.Devices.{device_changed, device_did, device_next, device_reset, device_rules};
 ghost use Rattle.guest_devices.specs.Devices.{device_told, device_wants, left_reset, left_times, new_device};
-<<<<<<< 8bde38ab
 ghost use Rattle.guest_devices.specs.Kept.{IsBoundedDevice, device_left, device_pages, device_port, is_device_state, is_kept, is_saved};
-=======
-ghost use Rattle.guest_devices.specs.Kept.{IsBoundedDevice, device_left, device_pages, device_port, is_device_state, is_kept, kept_reset};
->>>>>>> m
 ghost use Rattle.guest_devices.specs.Narrow.{IsNarrowDevice, IsNarrowKept, IsNarrowNew};
 ghost use Rattle.guest_devices.specs.Kinds.{ChangeOf, FitsChange, IsSmallChange, Kind};
 ghost use Rattle.guest_devices.specs.Sound.{IsSoundDevice};
 
 /// The items of a device lead to one thing that is still to be done, and the act that this wants is the one that the
-<<<<<<< 8bde38ab
 /// device wants. With a step of it, with a change, or behind a Reset, they lead to what comes next. Where a device begins
 /// where a trace led, it wants the one act that continues this trace with its items.
-=======
-/// device wants. With a step of it, with a change, or behind a Reset, they lead to what comes next, and so do the data that
-/// are kept of it. Where a device begins where a trace led, it wants the one act that continues this trace with its items.
->>>>>>> m
 pub fn devices_follow()
     ensures begins { (left : DeviceLeft) → DeviceLeads (device_at left) left }
     ensures one { (d : FlatDevice) (left other : DeviceLeft) →
@@ -49,11 +40,6 @@ pub fn devices_follow()
         DeviceLeads d left → DeviceLeads (device_told d c) (device_changed c left) }
     ensures reset { (d : FlatDevice) (left : DeviceLeft) →
         DeviceLeads d left → DeviceLeads (device_reset d) (left_reset left) }
-<<<<<<< 8bde38ab
-=======
-    ensures reset_kept { (it : Device) → is_kept it ≡ true →
-        (is_kept (kept_reset it) ≡ true) × (device_left (kept_reset it) ≡ left_reset (device_left it)) }
->>>>>>> m
     ensures continues { (k : Kind) (first : DataOf k) (before items : List (Item (ChangeOf k))) (start : Script (DataOf k))
         (op : Op) → LeadsTo (device_rules k) first before start →
         DeviceWants (record { kind = k; start = start; items = items }) op →

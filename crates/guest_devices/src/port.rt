@@ -2,10 +2,7 @@
 ghost use Rattle.std.specs.Prelude.{◌≡◌};
 ghost use Rattle.balloon_device.specs.Port as balloon;
 ghost use Rattle.net_device.specs.Port as net;
-<<<<<<< 8bde38ab
 ghost use Rattle.vsock_device.specs.Port as vsock;
-=======
->>>>>>> m
 ghost use Rattle.guest_devices.specs.declared.new_device.NewDevice.{NewDevice};
 ghost use Rattle.guest_devices.specs.declared.new_device.NewDevice.TheVariants as starts;
 ghost use Rattle.guest_devices.specs.Devices.{FitsNew};
@@ -21,10 +18,7 @@ use le_fields::put64;
 use mmio_port::Port;
 use net_device::{NewNet, configuration as net_configuration};
 use port_table::{DeviceKind, Feature};
-<<<<<<< 8bde38ab
 use vsock_device::{NewVsock, configuration as vsock_configuration};
-=======
->>>>>>> m
 
 // The capacity of a disk in sectors of 512 bytes (VIRTIO 1.2, 5.2.4).
 fn capacity(sectors: u64) -> [u8; 8]
@@ -66,7 +60,6 @@ fn net_port(what: &NewNet) -> Port
     )
 }
 
-<<<<<<< 8bde38ab
 fn vsock_port(what: &NewVsock) -> Port
     ensures port { result ≡ vsock.vsock_port what.now }
     ensures fits { (new : NewDevice) → new ≡ starts.Vsock what.now → FitsNew new }
@@ -74,8 +67,6 @@ fn vsock_port(what: &NewVsock) -> Port
     Port::new(DeviceKind::Vsock, 0, &vsock_configuration(what.guest_cid))
 }
 
-=======
->>>>>>> m
 // The driver has given no page yet.
 fn balloon_port(what: &NewBalloon) -> Port
     ensures port { result ≡ balloon.balloon_port what.now }
@@ -96,10 +87,7 @@ pub fn port_at_start(what: &NewDevice) -> Port
     match what {
         NewDevice::Block(drive) => block_port(drive),
         NewDevice::Net(what) => net_port(what),
-<<<<<<< 8bde38ab
         NewDevice::Vsock(what) => vsock_port(what),
-=======
->>>>>>> m
         NewDevice::Balloon(what) => balloon_port(what),
     }
 }

@@ -1,10 +1,6 @@
 -- A page that isn't made reads as zeros, and what an act does with one.
 use Rattle.std.proofs.Common.{◌≡◌, ℕ, zero, suc, ◌+◌, ◌-◌, ◌≤◌, ◌==◌, nat_le, nat_lt, Bool, true, false, cond, not, ◌&&◌, List, [], ◌∷◌, ◌++◌, Option, Some, None, length, take, drop, set, replicate, refl, sym, ap, ◌∙◌, arith}
-<<<<<<< 8bde38ab
 use Rattle.std.proofs.lemmas.Bool.{and_parts, eqb-true, leb-true}
-=======
-use Rattle.std.proofs.lemmas.Bool.{eqb-true, leb-true}
->>>>>>> m
 use Rattle.std.proofs.lemmas.List.{take-replicate, drop-replicate, replicate-append-replicate}
 use Rattle.vm_types.specs.declared.ids.ActorId.{ActorId}
 use Rattle.vm_types.specs.declared.ids.ActorId.TheVariants.{Hart}
@@ -12,11 +8,7 @@ use Rattle.vm_types.specs.declared.op.Op.{Op}
 use Rattle.vm_types.specs.declared.op.Op.TheVariants.{Read, Write, Amo, Lr, Sc}
 use Rattle.vm_types.specs.declared.reply.Reply.{Reply}
 use Rattle.vm_types.specs.declared.reply.Reply.TheVariants.{Done, Bytes, Word, AccessFault}
-<<<<<<< 8bde38ab
 use Rattle.guest_memory.specs.Amo.{amo_value}
-=======
-use Rattle.amo_table.specs.Amo.{amo_value}
->>>>>>> m
 use Rattle.le_fields.specs.Fields.{bytes_of}
 use Rattle.guest_memory.specs.Memory.{put_at}
 use Rattle.guest_memory.specs.Reserved.{granule_of, held_by, hart_limit, holding, is_granule, unreserved}
@@ -24,21 +16,13 @@ use Rattle.guest_memory.specs.Words.{width_of, word_bytes}
 use Rattle.guest_pages.specs.Made.{Takes, are_zeros}
 use Rattle.guest_pages.specs.Marks.{leaves}
 use Rattle.guest_pages.specs.Pages.{PageValue, is_within, page_start, page_read, page_word, page_written, page_made, page_reserving, page_touch, new_page, made_page, patched}
-<<<<<<< 8bde38ab
 use Rattle.guest_pages.proofs.Here.{and_left}
-=======
-use Rattle.guest_pages.proofs.Here.{and_left, and_right}
->>>>>>> m
 
 -- what is read of zeros is zeros
 pub zeros_read : (number at len : ℕ) → is_within number 4096 at len ≡ true → page_read (new_page number) at len ≡ replicate len 0
 zeros_read number at len within =
     let o : ℕ = at - page_start number in
-<<<<<<< 8bde38ab
     let room : o + len ≤ 4096 = leb-true (o + len) 4096 (and_parts (nat_le 1 len && nat_le (page_start number) at) (nat_le (o + len) 4096) within).1 in
-=======
-    let room : o + len ≤ 4096 = leb-true (o + len) 4096 (and_right (nat_le 1 len && nat_le (page_start number) at) (nat_le (o + len) 4096) within) in
->>>>>>> m
     ap (take len) (drop-replicate {X = ℕ} o 4096 0) ∙ take-replicate {X = ℕ} len (4096 - o) 0 (omega (arith, room))
 
 pub no_bytes : (width : ℕ) → bytes_of width 0 ≡ replicate width 0
@@ -50,11 +34,7 @@ all_zeros : (piece : List ℕ) → are_zeros piece ≡ true → piece ≡ replic
 all_zeros [] are = refl
 all_zeros (b ∷ piece) are =
     let first : b ≡ 0 = eqb-true b 0 (and_left (b == 0) (are_zeros piece) are) in
-<<<<<<< 8bde38ab
     let rest = all_zeros piece (and_parts (b == 0) (are_zeros piece) are).1 in
-=======
-    let rest = all_zeros piece (and_right (b == 0) (are_zeros piece) are) in
->>>>>>> m
     λ i. first i ∷ rest i
 
 pub zeros_put : (piece : List ℕ) (o : ℕ) → are_zeros piece ≡ true → o + length piece ≤ 4096

@@ -10,11 +10,8 @@ use Rattle.vm_types.specs.declared.reply.Reply.TheVariants.{Done, Bytes, Word, A
 use Rattle.guest_memory.specs.Amo.{amo_value}
 use Rattle.guest_memory.specs.Reserved.{hart_limit, granule_of, held_by, is_granule}
 use Rattle.guest_memory.specs.Words.{width_of, word_bytes}
-<<<<<<< 8bde38ab
 use Rattle.guest_memory.proofs.Ending.{length-slots_after}
 use Rattle.guest_memory.proofs.Keeping.{put_long, word_long}
-=======
->>>>>>> m
 use Rattle.guest_pages.specs.Pages.{PageValue, page_start, is_within, page_read, page_word, page_written, page_reserving, page_touch, page_made, unmarked, patched, page_holding}
 use Rattle.guest_pages.specs.Flat.{AreInside, IsPage}
 use Rattle.guest_pages.proofs.Ending.{inside_after, inside_set}

@@ -16,10 +16,7 @@ use Rattle.guest_memory.specs.Ram.{ram_start, is_ram}
 use Rattle.guest_memory.specs.Reserved.{hart_limit, first_slot, granule_of, held_by, holding, is_granule, slots_after}
 use Rattle.guest_memory.specs.Route.{access_place}
 use Rattle.guest_memory.specs.Words.{width_of, word_of, word_bytes}
-<<<<<<< 8bde38ab
 use Rattle.guest_memory.proofs.Keeping.{word_long}
-=======
->>>>>>> m
 use Rattle.guest_pages.specs.Pages.{PageValue, page_start, is_within, page_read, page_word, page_written, page_reserving, page_made, page_touch, flat_of}
 use Rattle.guest_pages.specs.Flat.{IsPage, ArePages}
 use Rattle.guest_pages.proofs.Here.{IsHere, here, within, page_at, pages_set}

@@ -1,9 +1,5 @@
 // Memory for pages that aren't made yet.
-<<<<<<< 8bde38ab
 ghost use Rattle.std.specs.Prelude.{◌≡◌, IfOk};
-=======
-ghost use Rattle.std.specs.Prelude.{◌≡◌};
->>>>>>> m
 ghost use Rattle.guest_pages.specs.Pages.{made_page};
 
 use crate::page::Page;
@@ -17,14 +13,10 @@ pub struct Blank {
 }
 
 impl Blank {
-<<<<<<< 8bde38ab
     /// Memory of its own, or an error where there is none.
     pub fn new(alloc: Global) -> Result<Blank, AllocError>
         ensures { IfOk result (λ blank. blank.page ≡ made_page 0) }
     {
-=======
-    pub fn new(alloc: Global) -> Result<Blank, AllocError> {
->>>>>>> m
         let Ok(page) = Page::new(alloc, 0) else {
             return Err(AllocError);
         };

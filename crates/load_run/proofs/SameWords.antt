@@ -17,11 +17,7 @@ use Rattle.api_calls.specs.declared.call.SnapshotType.{SnapshotType}
 use Rattle.api_calls.specs.declared.call.SnapshotType.TheVariants as snapshot
 use Rattle.api_calls.specs.Call.{◌>>=◌}
 use Rattle.refusals.specs.declared.refusal.Refusal.{Refusal}
-<<<<<<< 8bde38ab
 use Rattle.responses.specs.Responses.{Response}
-=======
-use Rattle.response_form.specs.Responses.{Response}
->>>>>>> m
 use Rattle.api_rules.specs.Table.{decision}
 use Rattle.command_line.specs.MachineId.{default_id}
 use Rattle.load_gen.specs.Load.{load_items, load_script, rounds_of}

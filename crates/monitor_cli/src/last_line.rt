@@ -1,10 +1,6 @@
 // The last line of a run.
 ghost use Rattle.std.specs.Prelude.{◌≡◌};
-<<<<<<< 8bde38ab
 ghost use Rattle.responses.specs.Output.{last_line};
-=======
-ghost use Rattle.script_output.specs.Output.{last_line};
->>>>>>> m
 ghost use Rattle.vm_outside.specs.Known.{Called, Tells};
 ghost use Rattle.vm_outside.specs.Passing.{TakesAll};
 ghost use Rattle.monitor_cli.specs.Taking.{IsQuiet};

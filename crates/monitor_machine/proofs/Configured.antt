@@ -32,11 +32,8 @@ mark_configured config paused (Some g) is = record {
       source = is.ready.configured.source;
       drives = is.ready.configured.drives;
       interfaces = is.ready.configured.interfaces;
-<<<<<<< 8bde38ab
       vsock = is.ready.configured.vsock;
       mmds = is.ready.configured.mmds;
-=======
->>>>>>> m
       machine = is.ready.configured.machine;
       balloon = is.ready.configured.balloon;
       room = is.ready.configured.room;
@@ -55,20 +52,14 @@ config_guest : (it : Change) (config : Config) (paused : Bool) (w : Option World
 config_guest (change.BootSource source) config paused w guest taken here early is = not_yet _ paused guest (no_guest w guest here early)
 config_guest (change.PutDrive drive) config paused w guest taken here early is = not_yet _ paused guest (no_guest w guest here early)
 config_guest (change.MachineConfig machine) config paused w guest taken here early is = not_yet _ paused guest (no_guest w guest here early)
-<<<<<<< 8bde38ab
 config_guest (change.PutVsock vsock) config paused w guest taken here early is = not_yet _ paused guest (no_guest w guest here early)
-=======
->>>>>>> m
 config_guest (change.PutBalloon balloon) config paused w guest taken here early is = not_yet _ paused guest (no_guest w guest here early)
 config_guest (change.PatchDrive patch) config paused w guest taken here early is = drive_patched config patch paused guest taken is
 config_guest (change.PutInterface interface) config paused w guest taken here early is = not_yet _ paused guest (no_guest w guest here early)
 config_guest (change.PatchInterface patch) config paused w guest taken here early is = interface_patched config patch paused guest taken is
 config_guest (change.PatchBalloon patch) config paused w guest taken here early is = amount_patched config patch paused guest taken is
 config_guest (change.PatchStatistics patch) config paused w guest taken here early is = interval_patched config patch paused guest taken is
-<<<<<<< 8bde38ab
 config_guest (change.MmdsConfig mmds) config paused w guest taken here early is = not_yet _ paused guest (no_guest w guest here early)
-=======
->>>>>>> m
 config_guest (change.PutMetadata body) config paused w guest taken here early is = is
 config_guest (change.PatchMetadata patch) config paused w guest taken here early is = is
 config_guest change.Start config paused w guest taken here early is = mark_configured config paused guest is
@@ -116,20 +107,14 @@ pub stays_early : (it : Change) (paused : Bool) (w : Option WorldValue) → IsEa
 stays_early (change.BootSource source) paused w early = early
 stays_early (change.PutDrive drive) paused w early = early
 stays_early (change.MachineConfig machine) paused w early = early
-<<<<<<< 8bde38ab
 stays_early (change.PutVsock vsock) paused w early = early
-=======
->>>>>>> m
 stays_early (change.PutBalloon balloon) paused w early = early
 stays_early (change.PatchDrive patch) paused w early = tt
 stays_early (change.PutInterface interface) paused w early = early
 stays_early (change.PatchInterface patch) paused w early = tt
 stays_early (change.PatchBalloon patch) paused w early = tt
 stays_early (change.PatchStatistics patch) paused w early = tt
-<<<<<<< 8bde38ab
 stays_early (change.MmdsConfig mmds) paused w early = early
-=======
->>>>>>> m
 stays_early (change.PutMetadata body) paused w early = tt
 stays_early (change.PatchMetadata patch) paused w early = tt
 stays_early change.Start paused w early = tt
@@ -143,20 +128,14 @@ pub told_early : (it : Change) (config : Config) (w v : Option WorldValue) → T
 told_early (change.BootSource source) config w v tells early = tells ∙ early
 told_early (change.PutDrive drive) config w v tells early = tells ∙ early
 told_early (change.MachineConfig machine) config w v tells early = tells ∙ early
-<<<<<<< 8bde38ab
 told_early (change.PutVsock vsock) config w v tells early = tells ∙ early
-=======
->>>>>>> m
 told_early (change.PutBalloon balloon) config w v tells early = tells ∙ early
 told_early (change.PatchDrive patch) config w v tells early = tt
 told_early (change.PutInterface interface) config w v tells early = tells ∙ early
 told_early (change.PatchInterface patch) config w v tells early = tt
 told_early (change.PatchBalloon patch) config w v tells early = tt
 told_early (change.PatchStatistics patch) config w v tells early = tt
-<<<<<<< 8bde38ab
 told_early (change.MmdsConfig mmds) config w v tells early = tells ∙ early
-=======
->>>>>>> m
 told_early (change.PutMetadata body) config w v tells early = tt
 told_early (change.PatchMetadata patch) config w v tells early = tt
 told_early change.Start config w v tells early = tt
@@ -209,11 +188,7 @@ taken_of : (live : Live) → IsReadyLive live → IsTaken live.config
 taken_of live (m, own, ready) = subst (λ (c : Config). IsTaken c) (sym own.config_is) ready.taken
 
 -- other drives
-<<<<<<< 8bde38ab
 pub drives_stay : (live : Live) (drives : List Drive) → AreFitting drives live.config.interfaces live.config.vsock live.config.balloon → live.guest ≡ None
-=======
-pub drives_stay : (live : Live) (drives : List Drive) → AreFitting drives live.config.interfaces live.config.balloon → live.guest ≡ None
->>>>>>> m
     → IsReadyLive live → IsReadyLive (record live { config = record live.config { drives = drives; configured = true } })
 drives_stay live drives fit none is =
     let taken = taken_of live is in
@@ -222,11 +197,8 @@ drives_stay live drives fit none is =
       source = taken.source;
       drives = fit.0;
       interfaces = taken.interfaces;
-<<<<<<< 8bde38ab
       vsock = taken.vsock;
       mmds = taken.mmds;
-=======
->>>>>>> m
       machine = taken.machine;
       balloon = taken.balloon;
       room = fit.1;
@@ -234,12 +206,8 @@ drives_stay live drives fit none is =
     none is
 
 -- other interfaces
-<<<<<<< 8bde38ab
 pub interfaces_stay : (live : Live) (interfaces : List Interface)
     → AreLinked live.config.drives interfaces live.config.vsock live.config.balloon live.config.mmds
-=======
-pub interfaces_stay : (live : Live) (interfaces : List Interface) → AreLinked live.config.drives interfaces live.config.balloon
->>>>>>> m
     → live.guest ≡ None → IsReadyLive live
     → IsReadyLive (record live { config = record live.config { interfaces = interfaces; configured = true } })
 interfaces_stay live interfaces fit none is =
@@ -249,11 +217,8 @@ interfaces_stay live interfaces fit none is =
       source = taken.source;
       drives = taken.drives;
       interfaces = fit.0;
-<<<<<<< 8bde38ab
       vsock = taken.vsock;
       mmds = fit.2;
-=======
->>>>>>> m
       machine = taken.machine;
       balloon = taken.balloon;
       room = fit.1;

@@ -50,18 +50,11 @@ use Rattle.monitor_plans.specs.declared.plan.Task.TheVariants as task
 use Rattle.create_end.specs.Saved.{IsSavedWorld}
 use Rattle.monitor_machine.specs.declared.machine.LiveMachine.{LiveMachine}
 use Rattle.monitor_machine.specs.declared.outcome.Outcome.{Outcome}
-<<<<<<< 8bde38ab
 use Rattle.monitor_machine.specs.Plans.{IsCreate, IsCreated, IsTask, TaskKeepsReady, failed_after, told_of}
 use Rattle.monitor_machine.specs.Replying.{Replies, open_response}
 use Rattle.monitor_machine.specs.State.{IsGuestBy, IsMachine}
 use Rattle.monitor_machine.specs.Telling.{TellsOwn}
 use Rattle.monitor_machine.proofs.Standing.{world_saved}
-=======
-use Rattle.monitor_machine.specs.Plans.{IsCreate, IsTask, TaskKeepsReady, created_after, failed_after, told_of}
-use Rattle.monitor_machine.specs.Replying.{Replies, open_response}
-use Rattle.monitor_machine.specs.State.{IsGuestBy, IsMachine}
-use Rattle.monitor_machine.specs.Telling.{TellsOwn}
->>>>>>> m
 use Rattle.monitor_machine.proofs.Leaving.{answered, tells_is}
 
 -- the world of a live machine is the guest of the machine
@@ -215,7 +208,6 @@ module _ (c : Creation) (live : LiveMachine) (w : WorldValue) (known left : File
   saved_is after left =
       world_saved w after.guest due.guest here (subst (λ (o : Option WorldValue). IsSavedWorld o after.guest) there left.0)
 
-<<<<<<< 8bde38ab
   pub create_does : (after : LiveMachine) → IsCreated c live after → TellsOwn live
       → writes.Creates c.names.mem_file_path c.head (written_of c w) c.names.snapshot_path c.body known left
       → RequestStep (flat.Outcome.Answered kept) given m (respond given no_content) end × IsMachine after left end
@@ -243,33 +235,6 @@ module _ (c : Creation) (live : LiveMachine) (w : WorldValue) (known left : File
             calls_is = wrote.calls ∙ (λ i. is.files.calls_is i ++ calls_are i);
           };
         }),
-=======
-  pub create_does : TellsOwn live → writes.Creates c.names.mem_file_path c.head (written_of c w) c.names.snapshot_path c.body known left
-      → RequestStep (flat.Outcome.Answered kept) given m (respond given no_content) end × IsMachine (created_after c live) left end
-  create_does tells wrote = (
-    answered live known m end given (Ok (change.CreateSnapshot due.it)) no_content kept
-        (ap (λ (r : Result Change Refusal). r >>= by_contents m) due.asks) (told_of live, tells_is live m tells is.own, refl)
-        (subst (λ (o : Option Guest). Creates o m due.it kept end) (sym due.there) (due.copy, due.copied, due.kept_is, due.saved, refl)),
-    record {
-      own = record {
-        id_is = is.own.id_is;
-        ids_is = λ i. record {
-          lineage = (is.own.ids_is i).lineage;
-          base = Some (due.identity_is i);
-          next = due.next_is i;
-        };
-        config_is = is.own.config_is;
-        metadata_is = is.own.metadata_is;
-        guest_is = saved_is;
-        paused_is = is.own.paused_is;
-      };
-      files = record {
-        saved_is = wrote.saved ∙ (λ i. insert (insert (is.files.saved_is i) (due.names_is i).mem_file_path
-            (1 ∷ head_is i ++ pages_are i)) (due.names_is i).snapshot_path (1 ∷ due.body_is i));
-        calls_is = wrote.calls ∙ (λ i. is.files.calls_is i ++ calls_are i);
-      };
-    },
->>>>>>> m
   )
 
   -- so many of its calls were begun, and not all
@@ -370,11 +335,7 @@ module _ (form : ResponseForm) (c : Creation) (live after : LiveMachine) (w : Wo
   alone : (response : Response) → written ≡ text ++ written_as form response → written ≡ text ++ (written_as form response ++ [])
   alone response is = is ∙ ap (λ (l : List ℕ). text ++ l) (sym (append-nil (written_as form response)))
 
-<<<<<<< 8bde38ab
   pub is_written : TellsOwn live → IsCreated c live after → written ≡ text ++ written_as form (open_response no_content) → left.health.faults ≡ known.health.faults
-=======
-  pub is_written : TellsOwn live → after ≡ created_after c live → written ≡ text ++ written_as form (open_response no_content) → left.health.faults ≡ known.health.faults
->>>>>>> m
       → (Tells known.health
       → writes.Creates c.names.mem_file_path c.head (written_of c w) c.names.snapshot_path c.body known left)
       → Replies form given Outcome.Answered live after text written known left
@@ -385,16 +346,8 @@ module _ (form : ResponseForm) (c : Creation) (live after : LiveMachine) (w : Wo
     responses = respond given no_content;
     writes = alone (open_response no_content) writes;
     went = λ told m is.
-<<<<<<< 8bde38ab
         let does = create_does c live w known left m given kept there is (due told m is) after leaves tells (wrote told) in
         (end c live w known left m given kept there is (due told m is), does.0, does.1);
-=======
-        let does = create_does c live w known left m given kept there is (due told m is) tells (wrote told) in (
-          end c live w known left m given kept there is (due told m is),
-          does.0,
-          subst (λ (l : LiveMachine). IsMachine l left (end c live w known left m given kept there is (due told m is))) (sym leaves) does.1,
-        );
->>>>>>> m
   }
 
   pub is_unwritten : after ≡ failed_after c live → written ≡ text ++ written_as form (open_response (refused refusal.OutsideFailed))

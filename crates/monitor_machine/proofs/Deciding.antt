@@ -75,17 +75,11 @@ two_files p config ids it c is request asks = subst HasTwoFiles (change_is p con
     by_call (call.PatchInterface patch) asks = tt
     by_call (call.PutMachineConfig machine) asks = tt
     by_call (call.PatchMachineConfig patch) asks = tt
-<<<<<<< 8bde38ab
     by_call (call.PutVsock vsock) asks = tt
     by_call (call.PutBalloon balloon) asks = tt
     by_call (call.PatchBalloon patch) asks = tt
     by_call (call.PatchStatistics patch) asks = tt
     by_call (call.PutMmdsConfig mmds) asks = tt
-=======
-    by_call (call.PutBalloon balloon) asks = tt
-    by_call (call.PatchBalloon patch) asks = tt
-    by_call (call.PatchStatistics patch) asks = tt
->>>>>>> m
     by_call (call.PutMetadata body) asks = tt
     by_call (call.PatchMetadata patch) asks = tt
     by_call call.InstanceStart asks = tt
@@ -112,17 +106,11 @@ has_guest guest paused config ids it c is = subst (λ (x : Change). HasGuest x g
     by_call (call.PatchInterface patch) is = tt
     by_call (call.PutMachineConfig machine) is = tt
     by_call (call.PatchMachineConfig patch) is = tt
-<<<<<<< 8bde38ab
     by_call (call.PutVsock vsock) is = tt
     by_call (call.PutBalloon balloon) is = tt
     by_call (call.PatchBalloon patch) is = tt
     by_call (call.PatchStatistics patch) is = tt
     by_call (call.PutMmdsConfig mmds) is = tt
-=======
-    by_call (call.PutBalloon balloon) is = tt
-    by_call (call.PatchBalloon patch) is = tt
-    by_call (call.PatchStatistics patch) is = tt
->>>>>>> m
     by_call (call.PutMetadata body) is = tt
     by_call (call.PatchMetadata patch) is = tt
     by_call call.InstanceStart is = tt
@@ -153,17 +141,11 @@ module _ (guest : Option WorldValue) (paused : Bool) (config : Config) (ids : Id
   early_by (call.PatchInterface patch) is = tt
   early_by (call.PutMachineConfig machine) is = not_started guest is
   early_by (call.PatchMachineConfig patch) is = not_started guest is
-<<<<<<< 8bde38ab
   early_by (call.PutVsock vsock) is = not_started guest is
   early_by (call.PutBalloon balloon) is = not_started guest is
   early_by (call.PatchBalloon patch) is = tt
   early_by (call.PatchStatistics patch) is = tt
   early_by (call.PutMmdsConfig mmds) is = not_started guest is
-=======
-  early_by (call.PutBalloon balloon) is = not_started guest is
-  early_by (call.PatchBalloon patch) is = tt
-  early_by (call.PatchStatistics patch) is = tt
->>>>>>> m
   early_by (call.PutMetadata body) is = tt
   early_by (call.PatchMetadata patch) is = tt
   early_by call.InstanceStart is = tt
@@ -186,17 +168,11 @@ module _ (guest : Option WorldValue) (paused : Bool) (config : Config) (ids : Id
   number_by (call.PatchInterface patch) is = tt
   number_by (call.PutMachineConfig machine) is = tt
   number_by (call.PatchMachineConfig patch) is = tt
-<<<<<<< 8bde38ab
   number_by (call.PutVsock vsock) is = tt
   number_by (call.PutBalloon balloon) is = tt
   number_by (call.PatchBalloon patch) is = tt
   number_by (call.PatchStatistics patch) is = tt
   number_by (call.PutMmdsConfig mmds) is = tt
-=======
-  number_by (call.PutBalloon balloon) is = tt
-  number_by (call.PatchBalloon patch) is = tt
-  number_by (call.PatchStatistics patch) is = tt
->>>>>>> m
   number_by (call.PutMetadata body) is = tt
   number_by (call.PatchMetadata patch) is = tt
   number_by call.InstanceStart is = tt
@@ -234,17 +210,11 @@ no_files p config ids it c is never = ap needs_files (sym (change_is p config id
     by_call (call.PatchInterface patch) never = refl
     by_call (call.PutMachineConfig machine) never = refl
     by_call (call.PatchMachineConfig patch) never = refl
-<<<<<<< 8bde38ab
     by_call (call.PutVsock vsock) never = refl
     by_call (call.PutBalloon balloon) never = refl
     by_call (call.PatchBalloon patch) never = refl
     by_call (call.PatchStatistics patch) never = refl
     by_call (call.PutMmdsConfig mmds) never = refl
-=======
-    by_call (call.PutBalloon balloon) never = refl
-    by_call (call.PatchBalloon patch) never = refl
-    by_call (call.PatchStatistics patch) never = refl
->>>>>>> m
     by_call (call.PutMetadata body) never = refl
     by_call (call.PatchMetadata patch) never = refl
     by_call call.InstanceStart never = absurd (never refl)

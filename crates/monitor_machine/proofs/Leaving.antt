@@ -106,17 +106,11 @@ left_is (change.PatchDrive patch) paused w g is = is
 left_is (change.PutInterface interface) paused w g is = is
 left_is (change.PatchInterface patch) paused w g is = is
 left_is (change.MachineConfig machine) paused w g is = is
-<<<<<<< 8bde38ab
 left_is (change.PutVsock vsock) paused w g is = is
 left_is (change.PutBalloon balloon) paused w g is = is
 left_is (change.PatchBalloon patch) paused w g is = is
 left_is (change.PatchStatistics patch) paused w g is = is
 left_is (change.MmdsConfig mmds) paused w g is = is
-=======
-left_is (change.PutBalloon balloon) paused w g is = is
-left_is (change.PatchBalloon patch) paused w g is = is
-left_is (change.PatchStatistics patch) paused w g is = is
->>>>>>> m
 left_is (change.PutMetadata body) paused w g is = is
 left_is (change.PatchMetadata patch) paused w g is = is
 left_is change.Start paused w g is = is
@@ -145,17 +139,11 @@ plain_leaves m (change.PatchDrive patch) plain =
 plain_leaves m (change.PutInterface interface) plain = cc
 plain_leaves m (change.PatchInterface patch) plain = (refl, refl)
 plain_leaves m (change.MachineConfig machine) plain = (refl, refl)
-<<<<<<< 8bde38ab
 plain_leaves m (change.PutVsock vsock) plain = (refl, refl)
 plain_leaves m (change.PutBalloon balloon) plain = (refl, refl)
 plain_leaves m (change.PatchBalloon patch) plain = (refl, refl)
 plain_leaves m (change.PatchStatistics patch) plain = (refl, refl)
 plain_leaves m (change.MmdsConfig mmds) plain = (refl, refl)
-=======
-plain_leaves m (change.PutBalloon balloon) plain = (refl, refl)
-plain_leaves m (change.PatchBalloon patch) plain = (refl, refl)
-plain_leaves m (change.PatchStatistics patch) plain = (refl, refl)
->>>>>>> m
 plain_leaves m (change.PutMetadata body) plain = cc
 plain_leaves m (change.PatchMetadata patch) plain = cc
 plain_leaves m change.Start plain = cc
@@ -173,17 +161,11 @@ plain_free (change.PatchDrive patch) plain = refl
 plain_free (change.PutInterface interface) plain = cc
 plain_free (change.PatchInterface patch) plain = refl
 plain_free (change.MachineConfig machine) plain = refl
-<<<<<<< 8bde38ab
 plain_free (change.PutVsock vsock) plain = refl
 plain_free (change.PutBalloon balloon) plain = refl
 plain_free (change.PatchBalloon patch) plain = refl
 plain_free (change.PatchStatistics patch) plain = refl
 plain_free (change.MmdsConfig mmds) plain = refl
-=======
-plain_free (change.PutBalloon balloon) plain = refl
-plain_free (change.PatchBalloon patch) plain = refl
-plain_free (change.PatchStatistics patch) plain = refl
->>>>>>> m
 plain_free (change.PutMetadata body) plain = refl
 plain_free (change.PatchMetadata patch) plain = refl
 plain_free change.Start plain = refl
@@ -233,13 +215,9 @@ keeps (change.PatchDrive patch) m told kept is = absurd is
 keeps (change.PutInterface interface) m told kept is = absurd is
 keeps (change.PatchInterface patch) m told kept is = absurd is
 keeps (change.MachineConfig machine) m told kept is = absurd is
-<<<<<<< 8bde38ab
 keeps (change.PutVsock vsock) m told kept is = absurd is
 keeps (change.PutBalloon balloon) m told kept is = absurd is
 keeps (change.MmdsConfig mmds) m told kept is = absurd is
-=======
-keeps (change.PutBalloon balloon) m told kept is = absurd is
->>>>>>> m
 keeps (change.PatchBalloon patch) m told kept is = absurd is
 keeps (change.PatchStatistics patch) m told kept is = absurd is
 keeps change.Start m told kept is = absurd is
@@ -262,17 +240,11 @@ fails_alone (change.PatchDrive patch) m reads =
 fails_alone (change.PutInterface interface) m reads = cc
 fails_alone (change.PatchInterface patch) m reads = cc
 fails_alone (change.MachineConfig machine) m reads = cc
-<<<<<<< 8bde38ab
 fails_alone (change.PutVsock vsock) m reads = cc
 fails_alone (change.PutBalloon balloon) m reads = cc
 fails_alone (change.PatchBalloon patch) m reads = cc
 fails_alone (change.PatchStatistics patch) m reads = cc
 fails_alone (change.MmdsConfig mmds) m reads = cc
-=======
-fails_alone (change.PutBalloon balloon) m reads = cc
-fails_alone (change.PatchBalloon patch) m reads = cc
-fails_alone (change.PatchStatistics patch) m reads = cc
->>>>>>> m
 fails_alone (change.PutMetadata body) m reads = cc
 fails_alone (change.PatchMetadata patch) m reads = cc
 fails_alone change.Start m reads = (refl, refl)

@@ -11,11 +11,7 @@ use Rattle.vm_types.specs.Fits.{out_fits}
 use Rattle.script_text.specs.declared.output.Misfit.{Misfit}
 use Rattle.script_text.specs.declared.output.Misfit.TheVariants as misfit
 use Rattle.script_text.specs.Output.{misfit_line, register_line}
-<<<<<<< 8bde38ab
 use Rattle.responses.specs.Output.{console_line}
-=======
-use Rattle.script_output.specs.Output.{console_line}
->>>>>>> m
 use Rattle.rv_supervisor.specs.declared.regs.Regs.{Regs}
 use Rattle.hart_trace.specs.Shown.{register_of}
 use Rattle.hart_trace.specs.States.{Hart}

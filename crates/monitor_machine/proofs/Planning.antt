@@ -53,17 +53,11 @@ plain_change m (change.PatchDrive patch) plain =
 plain_change m (change.PutInterface interface) plain = cc
 plain_change m (change.PatchInterface patch) plain = refl
 plain_change m (change.MachineConfig machine) plain = refl
-<<<<<<< 8bde38ab
 plain_change m (change.PutVsock vsock) plain = refl
 plain_change m (change.PutBalloon balloon) plain = refl
 plain_change m (change.PatchBalloon patch) plain = refl
 plain_change m (change.PatchStatistics patch) plain = refl
 plain_change m (change.MmdsConfig mmds) plain = refl
-=======
-plain_change m (change.PutBalloon balloon) plain = refl
-plain_change m (change.PatchBalloon patch) plain = refl
-plain_change m (change.PatchStatistics patch) plain = refl
->>>>>>> m
 plain_change m (change.PutMetadata body) plain = cc
 plain_change m (change.PatchMetadata patch) plain = cc
 plain_change m change.Start plain = cc
@@ -87,17 +81,11 @@ plain_left (change.PatchDrive patch) drives files nets puts patches starts creat
 plain_left (change.PutInterface interface) drives files nets puts patches starts creates loads = absurd (nets interface refl)
 plain_left (change.PatchInterface patch) drives files nets puts patches starts creates loads = refl
 plain_left (change.MachineConfig machine) drives files nets puts patches starts creates loads = refl
-<<<<<<< 8bde38ab
 plain_left (change.PutVsock vsock) drives files nets puts patches starts creates loads = refl
 plain_left (change.PutBalloon balloon) drives files nets puts patches starts creates loads = refl
 plain_left (change.PatchBalloon patch) drives files nets puts patches starts creates loads = refl
 plain_left (change.PatchStatistics patch) drives files nets puts patches starts creates loads = refl
 plain_left (change.MmdsConfig mmds) drives files nets puts patches starts creates loads = refl
-=======
-plain_left (change.PutBalloon balloon) drives files nets puts patches starts creates loads = refl
-plain_left (change.PatchBalloon patch) drives files nets puts patches starts creates loads = refl
-plain_left (change.PatchStatistics patch) drives files nets puts patches starts creates loads = refl
->>>>>>> m
 plain_left (change.PutMetadata body) drives files nets puts patches starts creates loads = absurd (puts body refl)
 plain_left (change.PatchMetadata patch) drives files nets puts patches starts creates loads = absurd (patches patch refl)
 plain_left change.Start drives files nets puts patches starts creates loads = absurd (starts refl)

@@ -1,11 +1,7 @@
 -- A live machine that is ready stays so, whatever becomes of its guest, its configuration and its numbers.
 use Rattle.std.proofs.Common.{◌≡◌, ◌≤◌, ◌<◌, ◌^◌, ◌+◌, ◌==◌, ◌&&◌, nat_lt, ℕ, Bool, true, false, refl, sym, ap, subst, ◌∙◌, List, [], Option, Some, None, Result, Ok, Err, slice_get, arith}
 use Rattle.std.specs.Prelude.{IfErr, IfOk, IfSome, IsTrue}
-<<<<<<< 8bde38ab
 use Rattle.std.proofs.lemmas.Bool.{and_from, and_right, eqb-true, lt-ltb}
-=======
-use Rattle.std.proofs.lemmas.Bool.{and_from, eqb-true, lt-ltb}
->>>>>>> m
 use Rattle.serde_json.specs.Data.{Data, null}
 use Rattle.file_format.specs.Identities.{is_numbered}
 use Rattle.vm_types.specs.declared.identity.Identity.{Identity}
@@ -210,13 +206,9 @@ told_stays live (change.BootSource source) after tells it = same_stays live afte
 told_stays live (change.PutDrive drive) after tells it = same_stays live after (sym tells) it
 told_stays live (change.PutInterface interface) after tells it = same_stays live after (sym tells) it
 told_stays live (change.MachineConfig machine) after tells it = same_stays live after (sym tells) it
-<<<<<<< 8bde38ab
 told_stays live (change.PutVsock vsock) after tells it = same_stays live after (sym tells) it
 told_stays live (change.PutBalloon balloon) after tells it = same_stays live after (sym tells) it
 told_stays live (change.MmdsConfig mmds) after tells it = same_stays live after (sym tells) it
-=======
-told_stays live (change.PutBalloon balloon) after tells it = same_stays live after (sym tells) it
->>>>>>> m
 told_stays live (change.PutMetadata body) after tells it = same_stays live after (sym tells) it
 told_stays live (change.PatchMetadata patch) after tells it = same_stays live after (sym tells) it
 told_stays live change.Start after tells it = same_stays live after (sym tells) it
@@ -254,17 +246,11 @@ stand_guest (change.PatchDrive patch) paused config guest is = (guest, λ w here
 stand_guest (change.PutInterface interface) paused config guest is = (guest, λ w here. here, is)
 stand_guest (change.PatchInterface patch) paused config guest is = (guest, λ w here. here, is)
 stand_guest (change.MachineConfig machine) paused config guest is = (guest, λ w here. here, is)
-<<<<<<< 8bde38ab
 stand_guest (change.PutVsock vsock) paused config guest is = (guest, λ w here. here, is)
 stand_guest (change.PutBalloon balloon) paused config guest is = (guest, λ w here. here, is)
 stand_guest (change.PatchBalloon patch) paused config guest is = (guest, λ w here. here, is)
 stand_guest (change.PatchStatistics patch) paused config guest is = (guest, λ w here. here, is)
 stand_guest (change.MmdsConfig mmds) paused config guest is = (guest, λ w here. here, is)
-=======
-stand_guest (change.PutBalloon balloon) paused config guest is = (guest, λ w here. here, is)
-stand_guest (change.PatchBalloon patch) paused config guest is = (guest, λ w here. here, is)
-stand_guest (change.PatchStatistics patch) paused config guest is = (guest, λ w here. here, is)
->>>>>>> m
 stand_guest (change.PutMetadata body) paused config guest is = (guest, λ w here. here, is)
 stand_guest (change.PatchMetadata patch) paused config guest is = (guest, λ w here. here, is)
 stand_guest change.Start paused config guest is = (guest, λ w here. here, is)

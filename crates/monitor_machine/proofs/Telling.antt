@@ -1,17 +1,9 @@
 -- What a balloon tells is what its guest's does, and a device that is told is told in both.
-<<<<<<< 8bde38ab
 use Rattle.std.proofs.Common.{◌≡◌, ℕ, zero, suc, true, refl, sym, ap, subst, ◌∙◌, List, [], ◌∷◌, length, Option, Some, None, slice_get, arith}
-=======
-use Rattle.std.proofs.Common.{◌≡◌, ℕ, zero, suc, Bool, true, ◌==◌, refl, sym, ap, subst, ◌∙◌, List, [], ◌∷◌, length, Option, Some, None, slice_get, arith}
->>>>>>> m
 use Rattle.std.specs.Prelude.{option_and_then, option_map}
 use Rattle.std.proofs.lemmas.Bool.{and_parts}
 use Rattle.std.proofs.lemmas.List.{length-map}
 use Rattle.std.proofs.lemmas.Option.{slice_get-map}
-<<<<<<< 8bde38ab
-=======
-use Rattle.vm_types.specs.declared.op.Op.{Op}
->>>>>>> m
 use Rattle.api_calls.specs.declared.balloon.Balloon.{Balloon}
 use Rattle.api_calls.specs.declared.limiter.Limiter.{Limiter}
 use Rattle.vm_config.specs.declared.change.Change.{Change}
@@ -20,29 +12,11 @@ use Rattle.vm_config.specs.declared.config.Config.{Config}
 use Rattle.vm_config.specs.Changes.{with_amount, with_interval}
 use Rattle.vm_config.specs.Devices.{balloon_device, interface_device}
 use Rattle.vm_config.specs.Drives.{device_of}
-<<<<<<< 8bde38ab
 use Rattle.device_trace.specs.Script.{data_of}
 use Rattle.queue_device.specs.declared.phase.Phase.TheVariants as phase
 use Rattle.queue_device.specs.Kept.{are_kept, is_place, work_of}
 use Rattle.queue_device.specs.Left.{queued}
 use Rattle.queue_device.proofs.KeptStays.{root_of}
-=======
-use Rattle.device_trace.specs.Doing.{Doing, Gives, Wants, asked}
-use Rattle.device_trace.specs.Script.{Script, Ends, data_of, perform}
-use Rattle.vq_split.specs.Kept.{is_walking}
-use Rattle.vq_split.specs.Walking.{walk_left, walk_wants}
-use Rattle.dev_core.specs.Returning.{break_left, return_left}
-use Rattle.queue_device.specs.declared.lanes.Rounds.{Rounds}
-use Rattle.queue_device.specs.declared.phase.Phase.{Phase}
-use Rattle.queue_device.specs.declared.phase.Phase.TheVariants as phase
-use Rattle.queue_device.specs.Kept.{are_kept, is_at_lane, is_of_round, is_place, is_walked, work_of}
-use Rattle.queue_device.specs.Lanes.{lane_of}
-use Rattle.queue_device.specs.Left.{Hand, left_at, queued, used_chain}
-use Rattle.queue_device.specs.Rounds.{broken_off, given_back, walked}
-use Rattle.queue_device.specs.Service.{Service}
-use Rattle.queue_device.proofs.GoesOn.{break_asks, return_asks}
-use Rattle.queue_device.proofs.Walks.{test_asks}
->>>>>>> m
 use Rattle.port_table.specs.declared.state.PortState.{PortState}
 use Rattle.balloon_device.specs.Port.{target_shown}
 use Rattle.guest_devices.specs.declared.change.DeviceChange.{DeviceChange}
@@ -63,31 +37,6 @@ use Rattle.monitor_machine.specs.Telling.{Relimits, Retargets, Retimes, TellsCha
 
 -- ---- the data at the root of what is left of a device are those that are kept
 
-<<<<<<< 8bde38ab
-=======
-perform_data : {D A : Type 0} (t : Doing A) (d : D) (more : D → A → Script D) (op : Op) → asked t ≡ Some op → data_of (perform t d more) ≡ d
-perform_data (Gives a) d more op is = absurd cc
-perform_data (Wants o on) d more op is = refl
-
-root_of : {E G : Type 0} (s : Service E) (times : Bool) (hand : G → Hand E) (p : Phase) (r : Rounds) (e : E) (g : G)
-    → is_place times p r ≡ true → data_of (left_at s p (hand g) (queued r e)) ≡ queued r e
-root_of s times hand phase.Between r e g place = refl
-root_of s times hand phase.Question r e g place = refl
-root_of s times hand (phase.Walk k v) r e g place =
-    let at = and_parts (is_at_lane r.due) (is_walked (lane_of k r) v) place in
-    let p1 = and_parts _ (v.next == (lane_of k r).next) at.1 in
-    let p0 = and_parts (is_walking v) (is_of_round (lane_of k r).queue v.queue) p1.0 in
-    perform_data (walk_left v) (queued r e) (walked s k v.queue) (walk_wants v) (test_asks v p0.0)
-root_of s times hand (phase.Take c) r e g place = refl
-root_of s times hand (phase.Serve c) r e g place = refl
-root_of s times hand (phase.Return c len stage) r e g place =
-    let asks = return_asks stage (used_chain c len r) in
-    perform_data (return_left stage (used_chain c len r)) (queued r e) (λ f done. Ends (given_back s c.which f)) asks.0 asks.1
-root_of s times hand (phase.Break k stage) r e g place =
-    let asks = break_asks stage r.port in
-    perform_data (break_left stage r.port) (queued r e) (λ f done. Ends (broken_off s k f)) asks.0 asks.1
-
->>>>>>> m
 -- of a device whose data may be kept
 device_root : (it : Device) → is_kept it ≡ true → data_of (device_left it).left ≡ queued (kept_of it).rounds (kept_of it).own
 device_root it kept =
@@ -103,10 +52,7 @@ left_tells (device.Balloon b) p kept =
     ap (λ (d : DataOf BalloonKind). told_by (Some p.config) (Some d.own.statistics)) (sym (device_root (device.Balloon b) kept))
 left_tells (device.Block b) p kept = refl
 left_tells (device.Net n) p kept = refl
-<<<<<<< 8bde38ab
 left_tells (device.Vsock v) p kept = refl
-=======
->>>>>>> m
 
 -- ---- what the balloon of a world tells is what the guest's does
 
@@ -225,13 +171,9 @@ change_at (change.BootSource source) config w v g is tells = subst (λ (o : Opti
 change_at (change.PutDrive drive) config w v g is tells = subst (λ (o : Option WorldValue). IsGuestBy o g) (sym tells) is
 change_at (change.PutInterface interface) config w v g is tells = subst (λ (o : Option WorldValue). IsGuestBy o g) (sym tells) is
 change_at (change.MachineConfig machine) config w v g is tells = subst (λ (o : Option WorldValue). IsGuestBy o g) (sym tells) is
-<<<<<<< 8bde38ab
 change_at (change.PutVsock vsock) config w v g is tells = subst (λ (o : Option WorldValue). IsGuestBy o g) (sym tells) is
 change_at (change.PutBalloon balloon) config w v g is tells = subst (λ (o : Option WorldValue). IsGuestBy o g) (sym tells) is
 change_at (change.MmdsConfig mmds) config w v g is tells = subst (λ (o : Option WorldValue). IsGuestBy o g) (sym tells) is
-=======
-change_at (change.PutBalloon balloon) config w v g is tells = subst (λ (o : Option WorldValue). IsGuestBy o g) (sym tells) is
->>>>>>> m
 change_at (change.PutMetadata body) config w v g is tells = subst (λ (o : Option WorldValue). IsGuestBy o g) (sym tells) is
 change_at (change.PatchMetadata patch) config w v g is tells = subst (λ (o : Option WorldValue). IsGuestBy o g) (sym tells) is
 change_at change.Start config w v g is tells = subst (λ (o : Option WorldValue). IsGuestBy o g) (sym tells) is

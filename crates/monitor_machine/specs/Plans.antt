@@ -35,13 +35,8 @@ use Rattle.flat_snapshot.specs.Copies.{IsCopyOf}
 use Rattle.flat_snapshot.specs.Files.{head_of, saved_pages, state_body}
 use Rattle.snap_writer.specs.Selected.{can_select, selected}
 use Rattle.flat_snapshot.specs.Found.{Snapshot, found}
-<<<<<<< 8bde38ab
 use Rattle.responses.specs.declared.form.ResponseForm.{ResponseForm}
 use Rattle.responses.specs.Responses.{Response, written_as}
-=======
-use Rattle.response_form.specs.declared.form.ResponseForm.{ResponseForm}
-use Rattle.response_form.specs.Responses.{Response, written_as}
->>>>>>> m
 use Rattle.flat_machine.specs.Limits.{limits_told}
 use Rattle.flat_machine.specs.Machine.{Machine}
 use Rattle.flat_machine.specs.Ready.{IsFitting}

@@ -1,12 +1,6 @@
-<<<<<<< 8bde38ab
 -- The devices that a start makes: the interfaces behind the drives, then the vsock device, and the balloon last.
 use Rattle.std.proofs.Common.{◌≡◌, ◌≤◌, ◌<◌, ◌^◌, ◌+◌, ℕ, true, refl, sym, ap, subst, List, [], ◌∷◌, ◌++◌, length, map, Option, Some, None, ◌∙◌, get_or, arith}
 use Rattle.std.specs.Prelude.{All, nat_le, nat_lt}
-=======
--- The devices that a start makes: the interfaces behind the drives, and the balloon last.
-use Rattle.std.proofs.Common.{◌≡◌, ◌≤◌, ◌<◌, ◌^◌, ◌+◌, ℕ, true, refl, sym, ap, subst, List, [], ◌∷◌, ◌++◌, length, map, Option, Some, None, get_or, arith}
-use Rattle.std.specs.Prelude.{All, nat_le, nat_lt, option_map}
->>>>>>> m
 use Rattle.std.proofs.lemmas.Bool.{and_parts, leb-true, ltb-true}
 use Rattle.std.proofs.lemmas.List.{length-append, length-map}
 use Rattle.std.proofs.lemmas.List.Elements.{All-append, All-cons, All-head, All-nil, All-tail}
@@ -16,18 +10,11 @@ use Rattle.api_calls.specs.declared.balloon.BalloonPatch.{BalloonPatch}
 use Rattle.api_calls.specs.declared.balloon.StatisticsPatch.{StatisticsPatch}
 use Rattle.api_calls.specs.declared.call.Drive.{Drive}
 use Rattle.api_calls.specs.declared.interface.Interface.{Interface}
-<<<<<<< 8bde38ab
 use Rattle.api_calls.specs.declared.vsock.Vsock.{Vsock}
 use Rattle.api_calls.specs.Form.{holds}
 use Rattle.vm_config.specs.declared.config.Config.{Config}
 use Rattle.vm_config.specs.Changes.{with_amount, with_interval}
 use Rattle.vm_config.specs.Devices.{balloon_count, balloon_device, balloon_devices, devices_in, devices_of, of_balloon, of_drive, of_interface, vsock_count, vsock_devices}
-=======
-use Rattle.api_calls.specs.Form.{holds}
-use Rattle.vm_config.specs.declared.config.Config.{Config}
-use Rattle.vm_config.specs.Changes.{with_amount, with_interval}
-use Rattle.vm_config.specs.Devices.{balloon_count, balloon_device, balloon_devices, devices_in, devices_of, of_balloon, of_drive, of_interface}
->>>>>>> m
 use Rattle.vm_config.specs.Drives.{in_order}
 use Rattle.vm_config.proofs.DeviceLemmas.{balloon_at, counted, length-ordered}
 use Rattle.port_table.specs.declared.kind.DeviceKind.{DeviceKind}
@@ -39,18 +26,11 @@ use Rattle.guest_devices.specs.Ports.{port_at_start}
 use Rattle.flat_guest.specs.Shaped.{kinds_at_start}
 use Rattle.snap_state.specs.Valid.{is_balloon, kind_configured}
 use Rattle.flat_machine.specs.Balloon.{new_balloon}
-<<<<<<< 8bde38ab
 use Rattle.flat_machine.specs.Vsock.{new_vsock}
 use Rattle.flat_machine.specs.Ready.{IsTaken}
 use Rattle.flat_machine.specs.Requests.{device_from, drive_from}
 use Rattle.flat_machine.proofs.Taken.{bounded}
 use Rattle.monitor_plans.specs.Starting.{FitsDrive, net_start, with_balloon, with_others, with_vsock}
-=======
-use Rattle.flat_machine.specs.Ready.{IsTaken}
-use Rattle.flat_machine.specs.Requests.{device_from, drive_from}
-use Rattle.flat_machine.proofs.Taken.{bounded}
-use Rattle.monitor_plans.specs.Starting.{FitsDrive, net_start, with_balloon, with_others}
->>>>>>> m
 use Rattle.monitor_plans.proofs.NetsMade.{there_below}
 
 -- ---- a balloon that is configured
@@ -74,7 +54,6 @@ balloon_near config b taken there =
 
 -- ---- which devices they are
 
-<<<<<<< 8bde38ab
 -- what stands in front stays there
 in_front : (it : NewDevice) (front : List NewDevice) (vsock : Option Vsock) (balloon : Option Balloon)
     → with_balloon (with_vsock (it ∷ front) vsock) balloon ≡ it ∷ with_balloon (with_vsock front vsock) balloon
@@ -120,44 +99,13 @@ many_with found interfaces vsock balloon n many =
     let more = many_vsock linked vsock in
     let last = many_balloon (with_vsock linked vsock) balloon in
     omega (arith, many, front, nets, more, last)
-=======
-nets_made : (interfaces : List Interface) (balloon : Option Balloon) (saved : Saved)
-    → with_balloon (map net_start interfaces) balloon ≡ map (device_from saved) (map of_interface interfaces ++ balloon_devices balloon)
-nets_made [] None saved = refl
-nets_made [] (Some b) saved = refl
-nets_made (i ∷ interfaces) None saved = ap (λ (l : List NewDevice). net_start i ∷ l) (nets_made interfaces None saved)
-nets_made (i ∷ interfaces) (Some b) saved = ap (λ (l : List NewDevice). net_start i ∷ l) (nets_made interfaces (Some b) saved)
-
-pub made_of : (drives : List Drive) (interfaces : List Interface) (balloon : Option Balloon) (saved : Saved)
-    → with_others (map (drive_from saved) drives) interfaces balloon
-    ≡ map (device_from saved) (map of_drive drives ++ (map of_interface interfaces ++ balloon_devices balloon))
-made_of [] interfaces balloon saved = nets_made interfaces balloon saved
-made_of (d ∷ drives) interfaces None saved = ap (λ (l : List NewDevice). drive_from saved d ∷ l) (made_of drives interfaces None saved)
-made_of (d ∷ drives) interfaces (Some b) saved =
-    ap (λ (l : List NewDevice). drive_from saved d ∷ l) (made_of drives interfaces (Some b) saved)
-
-pub many_with : (found : List NewDevice) (interfaces : List Interface) (balloon : Option Balloon) (n : ℕ) → length found ≡ n
-    → length (with_others found interfaces balloon) ≡ n + length interfaces + balloon_count balloon
-many_with found interfaces None n many =
-    let front = length-append found (map net_start interfaces) in
-    let nets = length-map interfaces net_start in
-    omega (arith, many, front, nets)
-many_with found interfaces (Some b) n many =
-    let front = length-append found (map net_start interfaces) in
-    let nets = length-map interfaces net_start in
-    let more = length-append (found ++ map net_start interfaces) (starts.Balloon (new_balloon b) ∷ []) in
-    omega (arith, many, front, nets, more)
->>>>>>> m
 
 -- ---- what they are
 
 drive_new : (it : NewDevice) → FitsDrive it → FitsNew it
 drive_new (starts.Block d) fits = fits
 drive_new (starts.Net n) fits = absurd fits
-<<<<<<< 8bde38ab
 drive_new (starts.Vsock v) fits = absurd fits
-=======
->>>>>>> m
 drive_new (starts.Balloon b) fits = absurd fits
 
 drives_new : (found : List NewDevice) → All FitsDrive found → All FitsNew found
@@ -171,7 +119,6 @@ linked_new : (found : List NewDevice) (interfaces : List Interface) → All Fits
 linked_new found interfaces all =
     All-append FitsNew found (map net_start interfaces) (drives_new found all) (nets_new interfaces)
 
-<<<<<<< 8bde38ab
 vsock_new : (front : List NewDevice) (vsock : Option Vsock) → All FitsNew front → All FitsNew (with_vsock front vsock)
 vsock_new front None all = all
 vsock_new front (Some v) all =
@@ -189,20 +136,10 @@ fit_with found interfaces vsock balloon all =
     let linked : List NewDevice = found ++ map net_start interfaces in
     balloon_new (with_vsock linked vsock) balloon (vsock_new linked vsock (linked_new found interfaces all))
 
-=======
-pub fit_with : (found : List NewDevice) (interfaces : List Interface) (balloon : Option Balloon) → All FitsDrive found
-    → All FitsNew (with_others found interfaces balloon)
-fit_with found interfaces None all = linked_new found interfaces all
-fit_with found interfaces (Some b) all =
-    All-append FitsNew (found ++ map net_start interfaces) (starts.Balloon (new_balloon b) ∷ []) (linked_new found interfaces all)
-    (All-cons FitsNew (starts.Balloon (new_balloon b)) [] tt (All-nil FitsNew))
-
->>>>>>> m
 one_kind : (it : NewDevice) (rest more : List DeviceKind) → FitsDrive it → rest ≡ more
     → (port_at_start it).kind ∷ rest ≡ numbers.Block ∷ more
 one_kind (starts.Block d) rest more fits same = ap (λ (l : List DeviceKind). numbers.Block ∷ l) same
 one_kind (starts.Net n) rest more fits same = absurd fits
-<<<<<<< 8bde38ab
 one_kind (starts.Vsock v) rest more fits same = absurd fits
 one_kind (starts.Balloon b) rest more fits same = absurd fits
 
@@ -235,37 +172,6 @@ pub kinds_with : (found : List NewDevice) (drives : List Drive) (interfaces : Li
 kinds_with found drives interfaces vsock balloon many all =
     let ordered = length-ordered drives in
     each_kind found (in_order drives) interfaces vsock balloon (omega (arith, many, ordered)) all
-=======
-one_kind (starts.Balloon b) rest more fits same = absurd fits
-
-nets_kind : (interfaces : List Interface) (balloon : Option Balloon)
-    → kinds_at_start (with_balloon (map net_start interfaces) balloon)
-    ≡ map kind_configured (map of_interface interfaces ++ balloon_devices balloon)
-nets_kind [] None = refl
-nets_kind [] (Some b) = refl
-nets_kind (i ∷ interfaces) None = ap (λ (l : List DeviceKind). numbers.Net ∷ l) (nets_kind interfaces None)
-nets_kind (i ∷ interfaces) (Some b) = ap (λ (l : List DeviceKind). numbers.Net ∷ l) (nets_kind interfaces (Some b))
-
-each_kind : (found : List NewDevice) (drives : List Drive) (interfaces : List Interface) (balloon : Option Balloon)
-    → length found ≡ length drives → All FitsDrive found
-    → kinds_at_start (with_others found interfaces balloon)
-    ≡ map kind_configured (map of_drive drives ++ (map of_interface interfaces ++ balloon_devices balloon))
-each_kind [] [] interfaces balloon many all = nets_kind interfaces balloon
-each_kind [] (d ∷ drives) interfaces balloon many all = absurd (omega (arith, many))
-each_kind (it ∷ found) [] interfaces balloon many all = absurd (omega (arith, many))
-each_kind (it ∷ found) (d ∷ drives) interfaces None many all =
-    one_kind it _ _ (All-head FitsDrive it found all)
-    (each_kind found drives interfaces None (omega (arith, many)) (All-tail FitsDrive it found all))
-each_kind (it ∷ found) (d ∷ drives) interfaces (Some b) many all =
-    one_kind it _ _ (All-head FitsDrive it found all)
-    (each_kind found drives interfaces (Some b) (omega (arith, many)) (All-tail FitsDrive it found all))
-
-pub kinds_with : (found : List NewDevice) (drives : List Drive) (interfaces : List Interface) (balloon : Option Balloon)
-    → length found ≡ length drives → All FitsDrive found
-    → kinds_at_start (with_others found interfaces balloon) ≡ map kind_configured (devices_in drives interfaces balloon)
-kinds_with found drives interfaces balloon many all =
-    let ordered = length-ordered drives in each_kind found (in_order drives) interfaces balloon (omega (arith, many, ordered)) all
->>>>>>> m
 
 -- ---- its number, and what a PATCH makes of it
 

@@ -4,12 +4,7 @@ use Rattle.std.specs.Prelude.{All, count_by, is_some}
 use Rattle.std.specs.FinMap.{get}
 use Rattle.std.specs.List.{filter, list_all, position_or_len}
 use Rattle.std.proofs.lemmas.Bool.{and_parts, leb-false, leb-true, ltb-true}
-<<<<<<< 8bde38ab
 use Rattle.std.proofs.lemmas.List.{append-nil, drop-replicate, map-append, take-append-le, take-replicate}
-=======
-use Rattle.std.proofs.lemmas.List.{append-nil, drop-replicate, length-append, map-append, take-append-le, take-replicate}
-use Rattle.std.proofs.lemmas.List.Filters.{length-filter_both}
->>>>>>> m
 use Rattle.std.proofs.lemmas.List.Folds.{list_all-append}
 use Rattle.std.proofs.Math.Seq.{take-append-add, take-length}
 use Rattle.vm_types.specs.Saved.{Saved}
@@ -21,23 +16,11 @@ use Rattle.guest_devices.specs.declared.new_device.NewDevice.{NewDevice}
 use Rattle.api_calls.specs.Form.{holds, is_id, is_path}
 use Rattle.api_calls.specs.Limits.{is_limiter}
 use Rattle.vm_config.specs.Named.{are_apart}
-<<<<<<< 8bde38ab
 use Rattle.vm_config.proofs.DeviceLemmas.{length-ordered}
-=======
->>>>>>> m
 use Rattle.snap_state.specs.Valid.{are_drives, is_drive}
 use Rattle.flat_machine.specs.Requests.{drive_from, have_files}
 use Rattle.monitor_plans.specs.declared.drives.DriveFiles.{DriveFiles}
 use Rattle.monitor_plans.specs.Starting.{FitsDrive}
-<<<<<<< 8bde38ab
-=======
-
--- each drive is one of the devices
-pub length-in_order : (drives : List Drive) → length (in_order drives) ≡ length drives
-length-in_order drives =
-    length-append (filter is_root drives) (filter (λ d. not (is_root d)) drives)
-    ∙ length-filter_both is_root (λ d. not (is_root d)) (λ d. refl) drives
->>>>>>> m
 
 -- the first elements, with the next or without one
 one_more : {A : Type 0} (xs : List A) (i : ℕ) (x : A) → slice_get xs i ≡ Some x → take (suc i) xs ≡ take i xs ++ x ∷ []

@@ -171,7 +171,6 @@ saved_are parent pages ns kinds g are kinds_are rise whole =
     ∙ ap (λ (l : List ℕ). stored_pages Two (length l) (pages_at l g.memory.bytes)) are
 
 -- the header and the table
-<<<<<<< 8bde38ab
 pub diff_head_is : (parent identity : Identity) (pages count stored : ℕ) (ns start head : List ℕ) (kinds : List Bool) (runs : List Run) (g : Guest)
     → ns ≡ numbers_written g.written 0 pages → kinds ≡ kinds_of (length ns) (pages_at ns g.memory.bytes) → runs ≡ runs_of ns kinds
     → count ≡ length runs → stored ≡ stored_in runs
@@ -186,18 +185,3 @@ diff_head_is parent identity pages count stored ns start head kinds runs g are k
     ∙ ap (λ (n : ℕ). drop 1 (header.bytes (record { version = Two; names = names; count = n; stored = stored }) ++ table_bytes Two runs)) many
     ∙ ap (λ (n : ℕ). drop 1 (header.bytes (record { version = Two; names = names; count = length runs; stored = n }) ++ table_bytes Two runs)) filled
     ∙ ap (λ (rs : List Run). drop 1 (header.bytes (record { version = Two; names = names; count = length rs; stored = stored_in rs }) ++ table_bytes Two rs)) all
-=======
-pub diff_head_is : (parent identity : Identity) (pages count : ℕ) (numbers start head : List ℕ) (g : Guest)
-    → numbers ≡ numbers_written g.written 0 pages → count ≡ length numbers
-    → 1 ∷ start ≡ header.bytes (record { pages = pages; parent = parent; identity = identity; count = count }) ++ table_bytes numbers
-    → head ≡ start → head ≡ diff_head (diff_in parent identity pages g)
-unfolding diff_head
-diff_head_is parent identity pages count numbers start head g are long written same =
-    same ∙ ap (drop 1) written
-    ∙ (λ i. drop 1 (header.bytes (record {
-      pages = pages;
-      parent = parent;
-      identity = identity;
-      count = (long ∙ ap (λ (l : List ℕ). length l) are) i;
-    }) ++ table_bytes (are i)))
->>>>>>> m

@@ -1,9 +1,5 @@
 -- What stands behind the gates of the two files.
-<<<<<<< 8bde38ab
 use Rattle.std.proofs.Common.{◌≡◌, ℕ, List, ◌∷◌, ◌++◌, drop, ap, subst, ◌∙◌}
-=======
-use Rattle.std.proofs.Common.{◌≡◌, ℕ, List, ◌∷◌, drop, ap, ◌∙◌}
->>>>>>> m
 use Rattle.vm_types.specs.declared.identity.Identity.{Identity}
 use Rattle.file_format.specs.Versions.{current_version, version_of}
 use Rattle.file_format.specs.declared.version.Version.{Version}
@@ -20,7 +16,6 @@ unfolding memory_head
 head_is identity pages h behind head new written same = same ∙ ap (drop 1) (written ∙ ap header.bytes new)
 
 pub body_is : (identity : Identity) (copy : StateCopy) (behind body : List ℕ)
-<<<<<<< 8bde38ab
     → Encodes (1 ∷ behind) (record { identity = identity; copy = copy }) → version_of (1 ∷ behind) ≡ current_version → body ≡ behind
     → body ≡ state_body identity copy
 unfolding state_body
@@ -32,8 +27,3 @@ pub body_saved : (identity : Identity) (copy : StateCopy) (behind : List ℕ) �
     → version_of (1 ∷ behind) ≡ current_version → IsSaved current_version (record { identity = identity; copy = copy })
 body_saved identity copy behind e version =
     subst (λ (v : Version). IsSaved v (record { identity = identity; copy = copy })) version e.saved
-=======
-    → Encodes (1 ∷ behind) (record { identity = identity; copy = copy }) → body ≡ behind → body ≡ state_body identity copy
-unfolding state_body
-body_is identity copy behind body e same = same ∙ ap (drop 1) e.bytes
->>>>>>> m

@@ -5,18 +5,11 @@ use Rattle.std.proofs.lemmas.Bool.{and_parts}
 use Rattle.std.proofs.lemmas.List.{append-nil}
 use Rattle.api_calls.specs.declared.balloon.Balloon.{Balloon}
 use Rattle.api_calls.specs.declared.interface.Interface.{Interface}
-<<<<<<< 8bde38ab
 use Rattle.api_calls.specs.declared.vsock.Vsock.{Vsock}
 use Rattle.api_calls.specs.Form.{holds}
 use Rattle.api_calls.specs.Limits.{is_limiter}
 use Rattle.vm_config.specs.declared.config.Config.{Config}
 use Rattle.vm_config.specs.Devices.{devices_of, interface_device, of_interface}
-=======
-use Rattle.api_calls.specs.Form.{holds}
-use Rattle.api_calls.specs.Limits.{is_limiter}
-use Rattle.vm_config.specs.declared.config.Config.{Config}
-use Rattle.vm_config.specs.Devices.{Configured, devices_of, interface_device, of_interface}
->>>>>>> m
 use Rattle.vm_config.specs.Interfaces.{id_of_interface}
 use Rattle.vm_config.specs.Named.{are_apart}
 use Rattle.vm_config.proofs.DeviceLemmas.{counted, interface_at}
@@ -24,11 +17,7 @@ use Rattle.guest_devices.specs.declared.new_device.NewDevice.{NewDevice}
 use Rattle.snap_state.specs.Valid.{is_interface}
 use Rattle.flat_machine.specs.Ready.{IsTaken}
 use Rattle.flat_machine.proofs.Taken.{bounded}
-<<<<<<< 8bde38ab
 use Rattle.monitor_plans.specs.Starting.{net_start, with_balloon, with_others, with_vsock}
-=======
-use Rattle.monitor_plans.specs.Starting.{net_start, with_balloon, with_others}
->>>>>>> m
 
 -- ---- an address
 
@@ -72,7 +61,6 @@ pub one_pushed : (old mid new : List NewDevice) (first : Interface) (others : Li
 one_pushed old mid new first others put more =
     more ∙ ap (λ (l : List NewDevice). l ++ map net_start others) put ∙ append_assoc old (net_start first ∷ []) (map net_start others)
 
-<<<<<<< 8bde38ab
 pub others_with : (found linked socketed all : List NewDevice) (interfaces own : List Interface) (vsock : Option Vsock)
     (balloon : Option Balloon) → own ≡ interfaces → linked ≡ found ++ map net_start own → socketed ≡ with_vsock linked vsock
     → all ≡ with_balloon socketed balloon → all ≡ with_others found interfaces vsock balloon
@@ -80,13 +68,6 @@ others_with found linked socketed all interfaces own vsock balloon same put next
     is ∙ ap (λ (l : List NewDevice). with_balloon l balloon) next
     ∙ ap (λ (l : List NewDevice). with_balloon (with_vsock l vsock) balloon) put
     ∙ ap (λ (l : List Interface). with_balloon (with_vsock (found ++ map net_start l) vsock) balloon) same
-=======
-pub others_with : (found linked all : List NewDevice) (interfaces own : List Interface) (balloon : Option Balloon) → own ≡ interfaces
-    → linked ≡ found ++ map net_start own → all ≡ with_balloon linked balloon → all ≡ with_others found interfaces balloon
-others_with found linked all interfaces own balloon same put is =
-    is ∙ ap (λ (l : List NewDevice). with_balloon l balloon) put
-    ∙ ap (λ (l : List Interface). with_balloon (found ++ map net_start l) balloon) same
->>>>>>> m
 
 -- ---- numbers
 

@@ -61,11 +61,8 @@ start_ready config image disk devices w taken there many kinds fit fits is =
             source = own.source;
             drives = own.drives;
             interfaces = own.interfaces;
-<<<<<<< 8bde38ab
             vsock = own.vsock;
             mmds = own.mmds;
-=======
->>>>>>> m
             machine = own.machine;
             balloon = own.balloon;
             room = own.room;

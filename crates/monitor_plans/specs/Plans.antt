@@ -33,14 +33,9 @@ plan_answer plan.NoMemory told = refused refusal.OutOfMemory
 -- what it makes of this configuration is as the API takes it
 abbrev pub IsFittingPlan : Plan → Config → Type 0
 IsFittingPlan (plan.Changes it) config = IsFitting config it
-<<<<<<< 8bde38ab
 IsFittingPlan (plan.Drives drives) config = AreFitting drives config.interfaces config.vsock config.balloon
 IsFittingPlan (plan.Interfaces interfaces) config =
     AreLinked config.drives interfaces config.vsock config.balloon config.mmds
-=======
-IsFittingPlan (plan.Drives drives) config = AreFitting drives config.interfaces config.balloon
-IsFittingPlan (plan.Interfaces interfaces) config = AreLinked config.drives interfaces config.balloon
->>>>>>> m
 IsFittingPlan (plan.Resizes r) config = IsFitting config (change.PatchDrive r.patch)
 IsFittingPlan it config = Unit {0}
 
@@ -61,13 +56,9 @@ IsEarly (change.BootSource source) world = world ≡ None
 IsEarly (change.PutDrive drive) world = world ≡ None
 IsEarly (change.PutInterface interface) world = world ≡ None
 IsEarly (change.MachineConfig machine) world = world ≡ None
-<<<<<<< 8bde38ab
 IsEarly (change.PutVsock vsock) world = world ≡ None
 IsEarly (change.PutBalloon balloon) world = world ≡ None
 IsEarly (change.MmdsConfig mmds) world = world ≡ None
-=======
-IsEarly (change.PutBalloon balloon) world = world ≡ None
->>>>>>> m
 IsEarly it world = Unit {0}
 
 abbrev pub IsEarlyPlan : Plan → Option WorldValue → Type 0

@@ -3,10 +3,7 @@ use Rattle.std.specs.Prelude.{◌≡◌, ℕ, List, [], ◌∷◌, ◌++◌, map
 use Rattle.vm_types.specs.Saved.{Saved}
 use Rattle.api_calls.specs.declared.balloon.Balloon.{Balloon}
 use Rattle.api_calls.specs.declared.interface.Interface.{Interface}
-<<<<<<< 8bde38ab
 use Rattle.api_calls.specs.declared.vsock.Vsock.{Vsock}
-=======
->>>>>>> m
 use Rattle.vm_config.specs.declared.config.Config.{Config}
 use Rattle.guest_devices.specs.declared.new_device.NewDevice.{NewDevice}
 use Rattle.guest_devices.specs.declared.new_device.NewDevice.TheVariants as starts
@@ -14,10 +11,7 @@ use Rattle.guest_devices.specs.Devices.{FitsNew}
 use Rattle.flat_guest.specs.Start.{started}
 use Rattle.flat_machine.specs.Balloon.{new_balloon}
 use Rattle.flat_machine.specs.Interfaces.{new_net}
-<<<<<<< 8bde38ab
 use Rattle.flat_machine.specs.Vsock.{new_vsock}
-=======
->>>>>>> m
 use Rattle.flat_machine.specs.Requests.{disk_by, devices_from, image_by, initrd_name, loads_from, start_refusal}
 use Rattle.vm_world.specs.Worlds.{IsWorld}
 use Rattle.monitor_plans.specs.declared.plan.Plan.{Plan}
@@ -34,10 +28,7 @@ disk_in config saved = disk_by (initrd_name config.boot_source) saved
 abbrev pub FitsDrive : NewDevice → Type 0
 FitsDrive (starts.Block d) = FitsNew (starts.Block d)
 FitsDrive (starts.Net n) = ⊥
-<<<<<<< 8bde38ab
 FitsDrive (starts.Vsock v) = ⊥
-=======
->>>>>>> m
 FitsDrive (starts.Balloon b) = ⊥
 
 -- what the device of an interface starts with
@@ -49,7 +40,6 @@ abbrev pub with_balloon : List NewDevice → Option Balloon → List NewDevice
 with_balloon drives None = drives
 with_balloon drives (Some b) = drives ++ starts.Balloon (new_balloon b) ∷ []
 
-<<<<<<< 8bde38ab
 -- and the vsock device before it
 abbrev pub with_vsock : List NewDevice → Option Vsock → List NewDevice
 with_vsock drives None = drives
@@ -58,11 +48,6 @@ with_vsock drives (Some v) = drives ++ starts.Vsock (new_vsock v) ∷ []
 -- the devices of the interfaces stand behind the drives, and before those
 abbrev pub with_others : List NewDevice → List Interface → Option Vsock → Option Balloon → List NewDevice
 with_others drives interfaces vsock balloon = with_balloon (with_vsock (drives ++ map net_start interfaces) vsock) balloon
-=======
--- the devices of the interfaces stand behind the drives, and before the balloon
-abbrev pub with_others : List NewDevice → List Interface → Option Balloon → List NewDevice
-with_others drives interfaces balloon = with_balloon (drives ++ map net_start interfaces) balloon
->>>>>>> m
 
 abbrev pub StartGives : Plan → Config → Saved → Type 0
 StartGives (plan.Starts w) config saved =

@@ -2,10 +2,7 @@
 ghost use Rattle.std.specs.Prelude.{All, ◌≡◌, ◌++◌, true, IfOk, OnOk, length, map};
 ghost use Rattle.flat_guest.specs.Shaped.{kinds_at_start};
 ghost use Rattle.flat_machine.specs.Ready.{IsTaken};
-<<<<<<< 8bde38ab
 ghost use Rattle.flat_machine.specs.Vsock.{new_vsock};
-=======
->>>>>>> m
 ghost use Rattle.flat_machine.specs.Requests.{devices_from, have_files};
 ghost use Rattle.flat_snapshot.specs.Copies.{configuration_of};
 ghost use Rattle.gate_file.specs.Reading.{FileCause};
@@ -16,29 +13,18 @@ ghost use Rattle.vm_outside.specs.Filing.{SameFiles};
 ghost use Rattle.vm_outside.specs.Known.{Lasts, Tells};
 ghost use Rattle.snap_state.specs.Valid.{is_interface};
 ghost use Rattle.std.specs.List.{list_all};
-<<<<<<< 8bde38ab
 ghost use Rattle.monitor_plans.specs.Starting.{net_start, with_balloon, with_others, with_vsock};
-=======
-ghost use Rattle.monitor_plans.specs.Starting.{net_start, with_balloon, with_others};
->>>>>>> m
 
 use crate::balloon::new_balloon;
 use crate::drives::{DriveFiles, drive_files};
 use crate::nets::new_net;
-<<<<<<< 8bde38ab
 use api_calls::{Interface, Vsock};
-=======
-use api_calls::Interface;
->>>>>>> m
 use api_rules::Config;
 use gate_file::FileError;
 use guest_devices::NewDevice;
 use std::alloc::{AllocError, Global};
 use vm_outside::Files;
-<<<<<<< 8bde38ab
 use vsock_device::NewVsock;
-=======
->>>>>>> m
 
 // The devices of interfaces, in their order.
 #[tactic(auto, using(crate::proofs::NetsMade::first_interface, crate::proofs::NetsMade::other_interfaces, crate::proofs::NetsMade::none_pushed, crate::proofs::NetsMade::one_pushed,))]
@@ -55,7 +41,6 @@ fn push_nets(devices: &mut Vec<NewDevice>, interfaces: &[Interface]) -> Result<(
     }
 }
 
-<<<<<<< 8bde38ab
 // What a vsock device starts with.
 fn new_vsock(vsock: &Vsock) -> NewVsock
     ensures { result ≡ new_vsock vsock.now }
@@ -65,8 +50,6 @@ fn new_vsock(vsock: &Vsock) -> NewVsock
     }
 }
 
-=======
->>>>>>> m
 fn with_interfaces(found: DriveFiles, interfaces: &[Interface]) -> Result<DriveFiles, AllocError>
     requires { list_all is_interface interfaces.now ≡ true }
     ensures drives { IfOk result (λ it. it.drives.items ≡ found.drives.items ++ map net_start interfaces.now) }
@@ -80,7 +63,6 @@ fn with_interfaces(found: DriveFiles, interfaces: &[Interface]) -> Result<DriveF
     })
 }
 
-<<<<<<< 8bde38ab
 // The vsock device stands before the balloon.
 fn with_vsock(found: DriveFiles, config: &Config) -> Result<DriveFiles, AllocError>
     ensures drives { IfOk result (λ it. it.drives.items ≡ with_vsock found.drives.items config.now.vsock) }
@@ -99,8 +81,6 @@ fn with_vsock(found: DriveFiles, config: &Config) -> Result<DriveFiles, AllocErr
     }
 }
 
-=======
->>>>>>> m
 // The balloon stands last.
 fn with_balloon(found: DriveFiles, config: &Config) -> Result<DriveFiles, AllocError>
     requires { IsTaken config.now }
@@ -120,29 +100,17 @@ fn with_balloon(found: DriveFiles, config: &Config) -> Result<DriveFiles, AllocE
     }
 }
 
-<<<<<<< 8bde38ab
 // The interfaces stand behind the drives, and before those.
-=======
-// The interfaces stand behind the drives, and before the balloon.
->>>>>>> m
 #[tactic(auto, using(crate::proofs::NetsMade::interfaces_taken, crate::proofs::NetsMade::others_with))]
 fn with_others(found: DriveFiles, config: &Config) -> Result<DriveFiles, AllocError>
     requires { IsTaken config.now }
     ensures drives { IfOk result (λ it. it.drives.items
-<<<<<<< 8bde38ab
         ≡ with_others found.drives.items config.now.interfaces config.now.vsock config.now.balloon) }
     ensures there { IfOk result (λ it. it.are_there ≡ found.are_there) }
 {
     let linked = with_interfaces(found, config.interfaces.as_slice())?;
     let socketed = with_vsock(linked, config)?;
     with_balloon(socketed, config)
-=======
-        ≡ with_others found.drives.items config.now.interfaces config.now.balloon) }
-    ensures there { IfOk result (λ it. it.are_there ≡ found.are_there) }
-{
-    let linked = with_interfaces(found, config.interfaces.as_slice())?;
-    with_balloon(linked, config)
->>>>>>> m
 }
 
 /// The devices of a machine that is configured so, the drives by their files, asked in the order of devices.

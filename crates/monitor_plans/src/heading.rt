@@ -1,9 +1,5 @@
 // What stands before the pages of a memory file, and which pages follow.
-<<<<<<< 8bde38ab
 ghost use Rattle.std.specs.Prelude.{◌≡◌, ◌<◌, ◌^◌, length, true, IfOk, IfSome, IsTrue, Some};
-=======
-ghost use Rattle.std.specs.Prelude.{◌≡◌, length, IfOk, IfSome, IsTrue, Some};
->>>>>>> m
 ghost use Rattle.file_format.specs.Identities.{is_numbered};
 ghost use Rattle.flat_snapshot.specs.Files.{memory_head};
 ghost use Rattle.snap_diff.specs.Runs.{chosen, runs_of};
@@ -93,16 +89,11 @@ fn diff_heading(
         count,
         stored: filled,
     };
-<<<<<<< 8bde38ab
     let Ok(start) = header.encode_behind_gate(alloc, table) else {
-=======
-    let Ok(start) = header.encode_behind_gate(alloc, &numbers) else {
->>>>>>> m
         return None;
     };
     Some(Heading {
         head: ByteList::from_vec(start),
-<<<<<<< 8bde38ab
         numbers: Some(stored),
     })
 }
@@ -128,12 +119,6 @@ fn runs_in(
     Ok((runs, stored))
 }
 
-=======
-        numbers: Some(numbers),
-    })
-}
-
->>>>>>> m
 fn head_of(alloc: Global, pages: u32, identity: Identity) -> Result<ByteList, AllocError>
     requires { IsTrue (is_numbered identity) }
     ensures { IfOk result (λ head. head ≡ memory_head identity pages) }

@@ -65,11 +65,7 @@ impl TakenConfig {
 
     /// Takes the drives that a PUT of one leaves, which are as the API takes them.
     pub fn set_drives(&mut self, drives: Drives)
-<<<<<<< 8bde38ab
         requires { AreFitting drives self.old.interfaces self.old.vsock self.old.balloon }
-=======
-        requires { AreFitting drives self.old.interfaces self.old.balloon }
->>>>>>> m
         ensures { self.new ≡ record self.old { drives = drives; configured = true } }
     {
         self.config.set_drives(drives);
@@ -77,11 +73,7 @@ impl TakenConfig {
 
     /// Takes the interfaces that a PUT of one leaves, which are as the API takes them.
     pub fn set_interfaces(&mut self, interfaces: Interfaces)
-<<<<<<< 8bde38ab
         requires { AreLinked self.old.drives interfaces self.old.vsock self.old.balloon self.old.mmds }
-=======
-        requires { AreLinked self.old.drives interfaces self.old.balloon }
->>>>>>> m
         ensures { self.new ≡ record self.old { interfaces = interfaces; configured = true } }
     {
         self.config.set_interfaces(interfaces);

@@ -1,19 +1,11 @@
 -- One event more of a device.
-<<<<<<< 8bde38ab
 use Rattle.std.proofs.Common.{◌≡◌, ◌<◌, ℕ, true, refl, sym, ap, ◌∙◌, subst, List, [], ◌∷◌, ◌++◌, MatchBool, Option, Some, None}
-=======
-use Rattle.std.proofs.Common.{◌≡◌, ◌<◌, ℕ, true, refl, sym, subst, List, [], ◌∷◌, ◌++◌, MatchBool, Option, Some, None}
->>>>>>> m
 use Rattle.std.proofs.lemmas.List.Elements.{All-push, All-from_recursion}
 use Rattle.vm_types.specs.declared.ids.ActorId.{ActorId}
 use Rattle.vm_types.specs.declared.ids.PlaceId.{PlaceId}
 use Rattle.vm_types.specs.declared.entry.Entry.{Entry}
 use Rattle.vm_types.specs.declared.op.Op.{Op}
-<<<<<<< 8bde38ab
 use Rattle.vm_types.specs.declared.op.OutOp.TheVariants.{HostClose, HostDial, HostNext, HostSend, LinkEnd, LinkPart, LinkSend, LinkTake}
-=======
-use Rattle.vm_types.specs.declared.op.OutOp.TheVariants.{LinkEnd, LinkPart, LinkSend, LinkTake}
->>>>>>> m
 use Rattle.vm_types.specs.declared.reply.Reply.{Reply}
 use Rattle.guest_pages.specs.Made.{is_ready}
 use Rattle.vm_host.specs.Storing.{DiskKnown}
@@ -26,11 +18,7 @@ use Rattle.flat_guest.proofs.Determined.{wants_one}
 use Rattle.vm_world.specs.Refusing.{refusal_of}
 use Rattle.vm_world.specs.Worlds.{IsWorld, MakesEvent, WorldValue, pages_of, place_in}
 use Rattle.slice_runner.specs.Slices.{given_of}
-<<<<<<< 8bde38ab
 use Rattle.monitor_running.specs.Devices.{AsksDisk, DiskReplies, DiskRests, HaveActed, IsDevices, IsGiven, IsGivenBy, IsGivenByDisk, IsShort, unserved_reply}
-=======
-use Rattle.monitor_running.specs.Devices.{AsksDisk, DiskReplies, DiskRests, HaveActed, IsDevices, IsGiven, IsGivenBy, IsGivenByDisk, link_reply}
->>>>>>> m
 use Rattle.monitor_running.proofs.Disks.{asked_more, rests_of, rests_same}
 use Rattle.monitor_running.proofs.Going.{given_is, leads_more, step_told}
 
@@ -67,19 +55,13 @@ disk_asks k (Op.Out act) None reply old now it is = let never = is in cc
 disk_asks k op None reply old now it is = rests_of old now it
 disk_asks k op (Some r) reply old now it is = absurd it
 
-<<<<<<< 8bde38ab
 -- what calls a link or a socket asks no disk
 link_asks : (k : ℕ) (op : Op) (given reply : Reply) (old now : DiskKnown) → unserved_reply op ≡ Some given → now ≡ old
-=======
--- what calls a link asks no disk
-link_asks : (k : ℕ) (op : Op) (given reply : Reply) (old now : DiskKnown) → link_reply op ≡ Some given → now ≡ old
->>>>>>> m
     → AsksDisk op (ActorId.Device k) reply old now
 link_asks k (Op.Out LinkTake) given reply old now calls same = rests_of old now same
 link_asks k (Op.Out (LinkPart index length)) given reply old now calls same = rests_of old now same
 link_asks k (Op.Out (LinkSend piece)) given reply old now calls same = rests_of old now same
 link_asks k (Op.Out LinkEnd) given reply old now calls same = rests_of old now same
-<<<<<<< 8bde38ab
 link_asks k (Op.Out HostNext) given reply old now calls same = rests_of old now same
 link_asks k (Op.Out (HostDial port)) given reply old now calls same = rests_of old now same
 link_asks k (Op.Out (HostSend piece connection)) given reply old now calls same = rests_of old now same
@@ -95,11 +77,6 @@ short_by k (Op.Out HostNext) given reply old now was is =
 short_by k op given reply old now was is = tt
 
 asks_by : (k : ℕ) (op : Op) (given : Option Reply) (reply : Reply) (old now : DiskKnown) (link : Option Reply) → unserved_reply op ≡ link
-=======
-link_asks k op given reply old now calls same = cc
-
-asks_by : (k : ℕ) (op : Op) (given : Option Reply) (reply : Reply) (old now : DiskKnown) (link : Option Reply) → link_reply op ≡ link
->>>>>>> m
     → IsGivenBy link k op old given now → as_given given ≡ given_of op reply → AsksDisk op (ActorId.Device k) reply old now
 asks_by k op given reply old now (Some answer) calls (own, same) is = link_asks k op answer reply old now calls same
 asks_by k op given reply old now None calls it is = disk_asks k op given reply old now it is
@@ -118,7 +95,6 @@ module _ (first w : WorldValue) (asked old now : DiskKnown) (es : List Entry) (k
       given_is (layout_of h) h e.actor e.op (as_given given) e.reply
       (subst (λ (p : PlaceId). Answers p h e.actor e.op (as_given given) e.reply) step.place step.answer) in
       subst (λ (a : ActorId). AsksDisk e.op a e.reply old now) (sym step.actor)
-<<<<<<< 8bde38ab
       (asks_by k e.op given e.reply old now (unserved_reply e.op) refl
       (subst (λ (o : Op). IsGiven k o old given now) (sym same) was_given) told)
 
@@ -130,10 +106,6 @@ module _ (first w : WorldValue) (asked old now : DiskKnown) (es : List Entry) (k
       given_is (layout_of h) h e.actor e.op (as_given given) e.reply
       (subst (λ (p : PlaceId). Answers p h e.actor e.op (as_given given) e.reply) step.place step.answer) in
       short_by k e.op given e.reply old now (subst (λ (o : Op). IsGiven k o old given now) (sym same) was_given) told
-=======
-      (asks_by k e.op given e.reply old now (link_reply e.op) refl
-      (subst (λ (o : Op). IsGiven k o old given now) (sym same) was_given) told)
->>>>>>> m
 
   pub acted_more : (v : WorldValue) (e : Entry) → MakesEvent w event e v → HaveActed (es ++ e ∷ []) first v asked now
   acted_more v e made = record {
@@ -176,9 +148,5 @@ module _ (first w : WorldValue) (asked old now : DiskKnown) (es : List Entry) (k
     made = λ g is. acted.made g is;
     answered = λ g is.
         let before = acted.serial g is in
-<<<<<<< 8bde38ab
         rw (unasked (unserved_reply op) given op was_given never before.0 before.2) (acted.answered g is);
-=======
-        rw (unasked (link_reply op) given op was_given never before.0 before.2) (acted.answered g is);
->>>>>>> m
   }

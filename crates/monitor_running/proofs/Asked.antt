@@ -19,11 +19,7 @@ use Rattle.hart_trace.proofs.Traces as hart_traces
 use Rattle.timer_trace.specs.States.{wants_by}
 use Rattle.timer_trace.proofs.Traces as timer_traces
 use Rattle.guest_devices.specs.Devices.{FlatDevice}
-<<<<<<< 8bde38ab
 use Rattle.guest_devices.specs.Kinds.{Balloon, Block, Kind, Net, Vsock, calls_of}
-=======
-use Rattle.guest_devices.specs.Kinds.{Balloon, Block, Kind, Net, calls_of}
->>>>>>> m
 use Rattle.guest_devices.proofs.Soundness.{want_host}
 use Rattle.flat_guest.specs.Given.{Event}
 use Rattle.flat_guest.specs.Guest.{Guest, Wants, WantsFrom, WantsOf, layout_of, whole_pages}
@@ -81,10 +77,7 @@ IsKinds act = (kind : Kind) × (calls_of kind act ≡ true)
 no_clock : (kind : Kind) → calls_of kind Clock ≡ true → ⊥
 no_clock Block calls = cc
 no_clock Net calls = cc
-<<<<<<< 8bde38ab
 no_clock Vsock calls = cc
-=======
->>>>>>> m
 no_clock Balloon calls = cc
 
 device_asks : (g : Guest) (k : ℕ) (o : Option FlatDevice) (act : OutOp) → IsSound g → slice_get g.devices k ≡ o

@@ -1,10 +1,6 @@
 -- A slice's events, and a drain, are a run over the items that tell them.
-<<<<<<< 8bde38ab
 use Rattle.std.proofs.Common.{◌≡◌, ◌<◌, nat_le, ℕ, zero, suc, Bool, true, false, if◌then◌else◌, refl, sym, ap, ◌∙◌, subst, List, [], ◌∷◌, ◌++◌, map, take, drop, append-nil, take-append-drop, Option, Some, ◌⊎◌, inl, inr}
 use Rattle.std.proofs.lemmas.Bool.{and_parts, le-leb}
-=======
-use Rattle.std.proofs.Common.{◌≡◌, ◌<◌, nat_le, ℕ, zero, suc, Bool, true, false, if◌then◌else◌, ◌&&◌, refl, sym, ap, ◌∙◌, subst, List, [], ◌∷◌, ◌++◌, map, take, drop, append-nil, take-append-drop, Option, Some, ◌⊎◌, inl, inr}
->>>>>>> m
 use Rattle.std.proofs.lemmas.List.Elements.{All-cons}
 use Rattle.vm_types.specs.declared.entry.Entry.{Entry}
 use Rattle.vm_types.specs.declared.ids.ActorId.{ActorId}
@@ -26,19 +22,11 @@ use Rattle.vm_world.specs.Worlds.{IsWorld, WorldValue}
 use Rattle.slice_runner.specs.Slices.{Leads, event_of, given_of}
 use Rattle.monitor_running.proofs.Asked.{IsAsking, IsDeviceCall, is_asking}
 use Rattle.device_trace.specs.Acts.{is_disk_call}
-<<<<<<< 8bde38ab
 use Rattle.guest_devices.specs.Kinds.{Balloon, Block, Kind, Net, Vsock, calls_of}
 use Rattle.flat_guest.specs.Sound.{IsSound}
 use Rattle.flat_guest.proofs.Soundness.{sound_next}
 use Rattle.vm_types.specs.declared.op.OutOp.{OutOp}
 use Rattle.vm_types.specs.declared.op.OutOp.TheVariants.{DiskFlush, DiskRead, DiskWrite, HostClose, HostDial, HostNext, HostSend, LinkEnd, LinkPart, LinkSend, LinkTake}
-=======
-use Rattle.guest_devices.specs.Kinds.{Balloon, Block, Kind, Net, calls_of}
-use Rattle.flat_guest.specs.Sound.{IsSound}
-use Rattle.flat_guest.proofs.Soundness.{sound_next}
-use Rattle.vm_types.specs.declared.op.OutOp.{OutOp}
-use Rattle.vm_types.specs.declared.op.OutOp.TheVariants.{DiskFlush, DiskRead, DiskWrite, LinkEnd, LinkPart, LinkSend, LinkTake}
->>>>>>> m
 use Rattle.vm_types.specs.Fits.{out_fits}
 use Rattle.serve_host.specs.Events.{event_items, frame_reply, host_reply, item_by, item_of}
 use Rattle.flat_trace.specs.Events.{drain_items, event_acts, quiet_act}
@@ -95,23 +83,12 @@ disk_again DiskFlush Reply.Failed call fits = refl
 disk_again DiskFlush reply call fits = cc
 disk_again act reply call fits = cc
 
-<<<<<<< 8bde38ab
-=======
-and_second : (a b : Bool) → (a && b) ≡ true → b ≡ true
-and_second true b is = is
-and_second false b is = cc
-
->>>>>>> m
 frame_again : (length : ℕ) → nat_le length 1514 ≡ true → reply_given (frame_reply length) ≡ Host (Reply.Frame length)
 frame_again length fits = ap (λ (b : Bool). reply_given (if b then lines.Frame length else lines.Failed)) fits
 
 link_again : (act : OutOp) (reply : Reply) → calls_of Net act ≡ true → out_fits act reply ≡ true
     → reply_given (host_reply reply) ≡ Host reply
-<<<<<<< 8bde38ab
 link_again LinkTake (Reply.Frame length) call fits = frame_again length (and_parts (nat_le 14 length) (nat_le length 1514) fits).1
-=======
-link_again LinkTake (Reply.Frame length) call fits = frame_again length (and_second (nat_le 14 length) (nat_le length 1514) fits)
->>>>>>> m
 link_again LinkTake Reply.Nothing call fits = refl
 link_again LinkTake Reply.Failed call fits = refl
 link_again LinkTake reply call fits = cc
@@ -126,7 +103,6 @@ link_again LinkEnd Reply.Failed call fits = refl
 link_again LinkEnd reply call fits = cc
 link_again act reply call fits = cc
 
-<<<<<<< 8bde38ab
 socket_again : (act : OutOp) (reply : Reply) → calls_of Vsock act ≡ true → out_fits act reply ≡ true → IsShort (Op.Out act) reply
     → reply_given (host_reply reply) ≡ Host reply
 socket_again HostNext Reply.Nothing call fits short = refl
@@ -156,25 +132,12 @@ call_again Vsock act reply call fits short = socket_again act reply call fits sh
 call_again Balloon act reply call fits short = cc
 
 given_again : (e : Entry) (act : OutOp) → IsAsking e act ⊎ IsDeviceCall e act → e.op ≡ Op.Out act → IsHeard e.actor e.op e.reply
-=======
-call_again : (kind : Kind) (act : OutOp) (reply : Reply) → calls_of kind act ≡ true → out_fits act reply ≡ true
-    → reply_given (host_reply reply) ≡ Host reply
-call_again Block act reply call fits = disk_again act reply call fits
-call_again Net act reply call fits = link_again act reply call fits
-call_again Balloon act reply call fits = cc
-
-given_again : (e : Entry) (act : OutOp) → IsAsking e act ⊎ IsDeviceCall e act
->>>>>>> m
     → reply_given (host_reply e.reply) ≡ Host e.reply
 given_again e act (inl asking) is heard =
     subst (λ (r : Reply). reply_given (host_reply r) ≡ Host r) (sym asking.reply) refl
-<<<<<<< 8bde38ab
 given_again e act (inr own) is heard =
     let device : IsShort e.op e.reply = subst (λ (a : ActorId). IsHeard a e.op e.reply) own.actor heard in
     call_again own.call.0 act e.reply own.call.1 own.fits (subst (λ (o : Op). IsShort o e.reply) is device)
-=======
-given_again e act (inr own) = call_again own.call.0 act e.reply own.call.1 own.fits
->>>>>>> m
 
 module _ (m : Machine) (g mid : Guest) (e : Entry) (sound : IsSound g) (runs : running m ≡ Some g)
     (step : FlatStep g (event_of e) e mid) (heard : IsHeard e.actor e.op e.reply) where

@@ -1,21 +1,12 @@
-<<<<<<< 8bde38ab
 -- What devices ask of their disks, links and sockets, and the events that they make.
 use Rattle.std.specs.Prelude.{ℕ, ◌≡◌, ◌<◌, ◌≤◌, true, MatchBool, All, List, [], ◌∷◌, Option, Some, None, length}
-=======
--- What devices ask of their disks and links, and the events that they make.
-use Rattle.std.specs.Prelude.{ℕ, ◌≡◌, ◌<◌, true, MatchBool, All, List, [], ◌∷◌, Option, Some, None, length}
->>>>>>> m
 use Rattle.vm_types.specs.Causes.{Rose}
 use Rattle.vm_types.specs.Fits.{out_fits}
 use Rattle.vm_types.specs.declared.entry.Entry.{Entry}
 use Rattle.vm_types.specs.declared.ids.ActorId.{ActorId}
 use Rattle.vm_types.specs.declared.op.Op.{Op}
 use Rattle.vm_types.specs.declared.op.OutOp.{OutOp}
-<<<<<<< 8bde38ab
 use Rattle.vm_types.specs.declared.op.OutOp.TheVariants.{DiskFlush, DiskRead, DiskWrite, HostClose, HostDial, HostNext, HostSend, LinkEnd, LinkPart, LinkSend, LinkTake}
-=======
-use Rattle.vm_types.specs.declared.op.OutOp.TheVariants.{DiskFlush, DiskRead, DiskWrite, LinkEnd, LinkPart, LinkSend, LinkTake}
->>>>>>> m
 use Rattle.vm_types.specs.declared.reply.Reply.{Reply}
 use Rattle.vm_outside.specs.Known.{Lasts, Tells}
 use Rattle.vm_host.specs.Storing.{DiskKnown, FlushesDisk, IsPart, MayFlushDisk, MayWriteDisk, SameDisks, WritesDisk}
@@ -68,7 +59,6 @@ IsGivenByDisk device (Op.Out act) old (Some reply) new =
     (is_disk_call act ≡ true) × (out_fits act reply ≡ true) × DiskReplies device act reply old new
 IsGivenByDisk device op old (Some reply) new = ⊥
 
-<<<<<<< 8bde38ab
 -- What a device is answered that calls its link or its socket: none is served, so that no frame comes and none can be sent, and that no
 -- connection is opened or can be.
 abbrev pub unserved_reply : Op → Option Reply
@@ -83,27 +73,12 @@ unserved_reply (Op.Out (HostClose connection)) = Some Reply.Failed
 unserved_reply op = None
 
 -- what an actor is given: what a link or a socket answers that isn't served, and then no disk was asked, or else what its disk does
-=======
--- What a device is answered that calls its link: none is served, so that no frame comes and none can be sent.
-abbrev pub link_reply : Op → Option Reply
-link_reply (Op.Out LinkTake) = Some Reply.Nothing
-link_reply (Op.Out (LinkPart index length)) = Some Reply.Failed
-link_reply (Op.Out (LinkSend piece)) = Some Reply.Failed
-link_reply (Op.Out LinkEnd) = Some Reply.Failed
-link_reply op = None
-
--- what an actor is given: what its link answers, and then no disk was asked, or else what its disk does
->>>>>>> m
 abbrev pub IsGivenBy : Option Reply → ℕ → Op → DiskKnown → Option Reply → DiskKnown → Type 0
 IsGivenBy (Some reply) device op old given new = (given ≡ Some reply) × (new ≡ old)
 IsGivenBy None device op old given new = IsGivenByDisk device op old given new
 
 abbrev pub IsGiven : ℕ → Op → DiskKnown → Option Reply → DiskKnown → Type 0
-<<<<<<< 8bde38ab
 IsGiven device op old given new = IsGivenBy (unserved_reply op) device op old given new
-=======
-IsGiven device op old given new = IsGivenBy (link_reply op) device op old given new
->>>>>>> m
 
 -- a call that a disk can be asked: a sector has 8 parts of 64 bytes
 abbrev pub CanBeAsked : Op → Type 0

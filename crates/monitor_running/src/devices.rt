@@ -27,11 +27,7 @@ ghost use Rattle.port_table.specs.Window.{most_ports};
 ghost use Rattle.flat_guest.specs.Guest.{Guest};
 ghost use Rattle.vm_world.specs.Worlds.{IsWorld, WorldValue};
 ghost use Rattle.slice_runner.specs.Slices.{IsSerial};
-<<<<<<< 8bde38ab
 ghost use Rattle.monitor_running.specs.Devices.{CanBeAsked, DiskWasAsked, HaveActed, IsDevices, IsGiven, IsGivenByDisk, unserved_reply};
-=======
-ghost use Rattle.monitor_running.specs.Devices.{CanBeAsked, DiskWasAsked, HaveActed, IsDevices, IsGiven, IsGivenByDisk, link_reply};
->>>>>>> m
 
 use port_table::MOST_DEVICES;
 use std::alloc::{AllocError, Global};
@@ -39,9 +35,6 @@ use vm_host::Disk;
 use vm_outside::Failed;
 use vm_types::{ActorId, Entry, Op, OutOp, Piece, Reply};
 use vm_world::World;
-
-/// There is room for so many pages at least, before the devices act, that they make.
-const ROOM: u64 = 256;
 
 /// There is room for so many pages at least, before the devices act, that they make.
 const ROOM: u64 = 256;
@@ -122,7 +115,6 @@ fn ask_disk<D: Disk>(disk: &mut D, device: u8, op: &Op) -> Option<Reply>
     }
 }
 
-<<<<<<< 8bde38ab
 // What a device is answered that calls its link or its socket: none is served.
 fn ask_unserved(op: &Op) -> Option<Reply>
     ensures { result ≡ unserved_reply op.now }
@@ -135,17 +127,6 @@ fn ask_unserved(op: &Op) -> Option<Reply>
         Op::Out(OutOp::HostDial { .. } | OutOp::HostSend { .. } | OutOp::HostClose { .. }) => {
             Some(Reply::Failed)
         }
-=======
-// What a device is answered that calls its link: none is served.
-fn ask_link(op: &Op) -> Option<Reply>
-    ensures { result ≡ link_reply op.now }
-{
-    match op {
-        Op::Out(OutOp::LinkTake) => Some(Reply::Nothing),
-        Op::Out(OutOp::LinkPart { .. } | OutOp::LinkSend { .. } | OutOp::LinkEnd) => {
-            Some(Reply::Failed)
-        }
->>>>>>> m
         _ => None,
     }
 }
@@ -155,11 +136,7 @@ fn ask_host<D: Disk>(disk: &mut D, device: u8, op: &Op) -> Option<Reply>
     ensures given { IsGiven device op.now (D.known disk.old) result (D.known disk.new) }
     ensures lasts { Lasts (D.known disk.old).health (D.known disk.new).health }
 {
-<<<<<<< 8bde38ab
     match ask_unserved(op) {
-=======
-    match ask_link(op) {
->>>>>>> m
         Some(reply) => Some(reply),
         None => ask_disk(disk, device, op),
     }

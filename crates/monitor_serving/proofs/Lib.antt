@@ -6,6 +6,7 @@ pub mod Connections
 pub mod Filing
 pub mod Halting
 pub mod Pieces
+mod Sending
 pub mod Settling
 pub mod Slices
 pub mod Turns

@@ -92,12 +92,6 @@ module _ (s : Start) (a b c : View) (talk : List Out) (first : Continues s a b t
 -- a connection that stays open goes on
 pub open_goes : (a b : View) → StaysOpen a b → GoesOn a b
 open_goes a b stays s m talk stands = (stays s m talk stands).0
-<<<<<<< 8bde38ab
-=======
-
-pub rose_after : (i mid j : ℕ) → i ≤ mid → Rose mid j → Rose i j
-rose_after i mid j first rose = omega (arith, first, rose)
->>>>>>> m
 
 module _ (a b c : View) (on : GoesOn a b) (conn_lasts : Lasts a.conn.health b.conn.health) where
   pub goes_on : GoesOn b c → GoesOn a c

@@ -167,10 +167,3 @@ IsSizedData sized e = sized ≡ true → IsSmallData e
 -- what is kept where this is left
 abbrev pub NetKept : ℕ → ℕ → Script (Queued Net) → Type 0
 NetKept port pages t = HasKept net hand_of is_work AnyNet false true port pages t
-<<<<<<< 8bde38ab
-=======
-
--- and where each reply was small, each number of which has its width
-abbrev pub NetNarrow : ℕ → ℕ → Script (Queued Net) → Type 0
-NetNarrow port pages t = HasKept net (sized_hand true) (is_sized_work true) (IsSizedData true) true true port pages t
->>>>>>> m

@@ -1,10 +1,6 @@
 -- What the code keeps of a device passes the test, step by step.
 use Rattle.std.proofs.Common.{◌≡◌, ℕ, ◌||◌, not, refl, sym, ap, ◌∙◌, subst, Bool, true, false, Option, Some, None, is_some}
-<<<<<<< 8bde38ab
 use Rattle.std.proofs.lemmas.Bool.{and_from, and_parts, or_right}
-=======
-use Rattle.std.proofs.lemmas.Bool.{and_from, and_parts}
->>>>>>> m
 use Rattle.vm_types.specs.declared.port_look.PortLook.{PortLook}
 use Rattle.vq_split.specs.declared.queue.Queue.{Queue}
 use Rattle.vq_split.specs.Walking.{Walking}
@@ -29,11 +25,7 @@ use Rattle.queue_device.specs.Left.{queued}
 use Rattle.queue_device.specs.Rounds.{due_from}
 use Rattle.queue_device.specs.Service.{Service}
 use Rattle.queue_device.proofs.Keeping.{begun_are, lane_held, lane_in, over_are}
-<<<<<<< 8bde38ab
 use Rattle.queue_device.proofs.KeptRounds.{IsWorked, from_worked, lane_due, next_in, over_next, own_begun, own_in, own_over, queue_in}
-=======
-use Rattle.queue_device.proofs.KeptRounds.{IsWorked, from_worked, lane_due, next_in, or_true, over_next, own_begun, own_in, own_over, queue_in}
->>>>>>> m
 use Rattle.queue_device.proofs.Places.{held_some}
 
 pub pages_in : (k : Which) (change : Lane → Lane) (r : Rounds) → (in_lane k change r).pages ≡ r.pages
@@ -148,11 +140,7 @@ module _ {E : Type 0} (s : Service E) (times : Bool) where
   pub freed_kept : (k : Which) (r : Rounds) → is_working s times r ≡ true → is_some (lane_of k r).queue ≡ true
       → are_kept s times (in_lane k lane_freed r) ≡ true
   freed_kept k r test some =
-<<<<<<< 8bde38ab
       in_kept k lane_freed r test some (λ is. lane_held s r.port r.pages k None (lane_of k r) refl is) (λ is. or_right times true refl) refl
-=======
-      in_kept k lane_freed r test some (λ is. lane_held s r.port r.pages k None (lane_of k r) refl is) (λ is. or_true times) refl
->>>>>>> m
 
   busy_by : (o : Due) (r : Rounds) → is_at_lane o ≡ true → is_next s.may_ask o r ≡ true → is_next s.may_ask o (busy r) ≡ true
   busy_by due.Look r at is = absurd (cc)

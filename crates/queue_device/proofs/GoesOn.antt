@@ -53,11 +53,7 @@ use Rattle.queue_device.specs.Rounds.{round_broken, round_from, served, serving,
 use Rattle.queue_device.specs.Service.{Queued, Service}
 use Rattle.queue_device.specs.Sizes.{IsHead, IsLength, IsNarrowLane, IsNarrowPhase, IsReplyTo, IsSmallReply}
 use Rattle.queue_device.proofs.Keeping.{chain_of, lane_held, lane_is, new_are, rounds_of, test_of_chain}
-<<<<<<< 8bde38ab
 use Rattle.queue_device.proofs.KeptRounds.{IsNext, IsRound, at_in, behind_worked, from_worked, lane_due, new_own, next_in, next_is, over_next, own_lane, queue_in, round_begun_is, round_in, round_of, round_over_is, short_new, short_of, test_of_kept}
-=======
-use Rattle.queue_device.proofs.KeptRounds.{IsNext, IsRound, at_in, behind_worked, from_worked, lane_due, new_own, next_in, next_is, or_true, over_next, own_lane, queue_in, round_begun_is, round_in, round_of, round_over_is, short_new, short_of, test_of_kept}
->>>>>>> m
 use Rattle.queue_device.proofs.Places.{Held, held_of, held_round, held_some, lane_queue, of_shown, walking_is}
 use Rattle.queue_device.proofs.Steps.{holds_break, holds_question, holds_return, holds_serve, holds_take, holds_walk, perform_next}
 use Rattle.queue_device.proofs.Walks.{IsCome, WalkGoes, walk_asks, walk_goes}
@@ -492,11 +488,7 @@ module _ {E G C : Type 0} (s : Service E) (changing : Changing E C) (hand : G �
       → Working (in_lane k lane_freed r)
   freed_works k r w some =
       change_works k lane_freed r w some (λ is. lane_held s port pages k None (lane_of k r) refl is)
-<<<<<<< 8bde38ab
       (λ is. or_right times true refl) (freed_short (lane_of k r)) refl
-=======
-      (λ is. or_true times) (freed_short (lane_of k r)) refl
->>>>>>> m
 
   module _ (k : Which) (c : Chain) (r : Rounds) (w : Working r) (some : is_some (lane_of k r).queue ≡ true)
       (may : times ≡ true) (chain : IsChain s pages k c) (short : IsShortChain sized (Some c)) where

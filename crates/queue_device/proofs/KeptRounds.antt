@@ -1,13 +1,7 @@
 -- Rounds that may be kept: what a look, a chain and a round's end leave of them.
-<<<<<<< 8bde38ab
 use Rattle.std.proofs.Common.{◌≡◌, ℕ, ◌==◌, refl, sym, subst, ◌∙◌, Bool, true, false, not, if◌then◌else◌, Option, Some, None, is_some, arith}
 use Rattle.std.specs.Prelude.{IfSome}
 use Rattle.std.proofs.lemmas.Bool.{and_from, and_parts, or_right}
-=======
-use Rattle.std.proofs.Common.{◌≡◌, ℕ, ◌==◌, refl, sym, subst, ◌∙◌, Bool, true, false, ◌||◌, not, if◌then◌else◌, Option, Some, None, is_some, arith}
-use Rattle.std.specs.Prelude.{IfSome}
-use Rattle.std.proofs.lemmas.Bool.{and_from, and_parts}
->>>>>>> m
 use Rattle.vm_types.specs.declared.port_look.PortLook.{PortLook}
 use Rattle.vm_types.specs.declared.port_look.QueueShown.{QueueShown}
 use Rattle.vm_types.specs.declared.reply.Reply.{Reply}

@@ -176,11 +176,7 @@ perform_data : {D A : Type 0} (t : Doing A) (d : D) (more : D → A → Script D
 perform_data (Gives a) d more op is = absurd (cc)
 perform_data (Wants o on) d more op is = refl
 
-<<<<<<< 8bde38ab
 pub root_of : {E G : Type 0} (s : Service E) (times : Bool) (hand : G → Hand E) (p : Phase) (r : Rounds) (e : E) (g : G)
-=======
-root_of : {E G : Type 0} (s : Service E) (times : Bool) (hand : G → Hand E) (p : Phase) (r : Rounds) (e : E) (g : G)
->>>>>>> m
     → is_place times p r ≡ true → data_of (left_at s p (hand g) (queued r e)) ≡ queued r e
 root_of s times hand phase.Between r e g place = refl
 root_of s times hand phase.Question r e g place = refl

@@ -1,5 +1,4 @@
 -- Where a reply leads a device whose next act is one of a walk, or of the giving back of a chain.
-<<<<<<< 8bde38ab
 use Rattle.std.proofs.Common.{◌≡◌, ℕ, sym, ap, subst, ◌∙◌, Some}
 use Rattle.vm_types.specs.declared.op.Op.{Op}
 use Rattle.vm_types.specs.declared.reply.Reply.{Reply}
@@ -8,15 +7,6 @@ use Rattle.device_trace.specs.Script.{Script, Ends, perform}
 use Rattle.device_trace.specs.States.{stepped, wants}
 use Rattle.device_trace.specs.Traces.{Changing}
 use Rattle.device_trace.proofs.Performs.{perform_stepped, perform_wants}
-=======
-use Rattle.std.proofs.Common.{◌≡◌, ℕ, sym, ap, subst, ◌∙◌, refl, Some}
-use Rattle.vm_types.specs.declared.op.Op.{Op}
-use Rattle.vm_types.specs.declared.reply.Reply.{Reply}
-use Rattle.device_trace.specs.Doing.{Doing, Gives, Wants, asked, led}
-use Rattle.device_trace.specs.Script.{Script, Ends, perform}
-use Rattle.device_trace.specs.States.{stepped, wants}
-use Rattle.device_trace.specs.Traces.{Changing, Rules}
->>>>>>> m
 use Rattle.vq_split.specs.Walking.{Walking, walk_left}
 use Rattle.dev_core.specs.declared.returning.ReturnStage.{ReturnStage}
 use Rattle.dev_core.specs.declared.returning.UsedChain.{UsedChain}
@@ -30,20 +20,6 @@ use Rattle.queue_device.specs.Rounds.{given_back, queue_rules, walked}
 use Rattle.queue_device.specs.Service.{Queued, Service}
 use Rattle.queue_device.proofs.GoesOn.{return_asks}
 
-<<<<<<< 8bde38ab
-=======
-module _ {D C : Type 0} (rules : Rules D C) where
-  perform_wanted : {A : Type 0} (t : Doing A) (d : D) (more : D → A → Script D) (op : Op) → asked t ≡ Some op
-      → wants rules (perform t d more) ≡ op
-  perform_wanted (Gives a) d more op is = cc
-  perform_wanted (Wants o on) d more op is = cc
-
-  perform_stepped : {A : Type 0} (t : Doing A) (d : D) (more : D → A → Script D) (op : Op) (reply : Reply) → asked t ≡ Some op
-      → stepped rules (perform t d more) reply ≡ perform (led t reply) d more
-  perform_stepped (Gives a) d more op reply is = cc
-  perform_stepped (Wants o on) d more op reply is = refl
-
->>>>>>> m
 -- ---- a walk
 
 module _ {E C : Type 0} (s : Service E) (changing : Changing E C) (h : Hand E) (d : Queued E) (p : Phase) (k : Which) (walk : Walking)
@@ -51,11 +27,7 @@ module _ {E C : Type 0} (s : Service E) (changing : Changing E C) (h : Hand E) (
   pub walk_wanted : wants (queue_rules s changing) (left_at s p h d) ≡ op
   walk_wanted =
       subst (λ (x : Phase). wants (queue_rules s changing) (left_at s x h d) ≡ op) (sym is)
-<<<<<<< 8bde38ab
       (perform_wants (queue_rules s changing) (walk_left walk) d (walked s k walk.queue) op asks)
-=======
-      (perform_wanted (queue_rules s changing) (walk_left walk) d (walked s k walk.queue) op asks)
->>>>>>> m
 
   pub walk_stepped : (reply : Reply) (x : Script (Queued E)) → x ≡ perform (led (walk_left walk) reply) d (walked s k walk.queue)
       → x ≡ stepped (queue_rules s changing) (left_at s p h d) reply

@@ -1,9 +1,5 @@
 -- The widths of what is kept of a device with queues, and of what it is replied.
-<<<<<<< 8bde38ab
 use Rattle.std.specs.Prelude.{◌≡◌, ◌<◌, ◌≤◌, ◌^◌, ℕ, Bool, true, Option, Some, None, IfSome, length}
-=======
-use Rattle.std.specs.Prelude.{◌≡◌, ◌<◌, ◌^◌, ℕ, Bool, true, Option, Some, None, IfSome}
->>>>>>> m
 use Rattle.std.specs.List.{All}
 use Rattle.vm_types.specs.declared.op.Op.{Op}
 use Rattle.vm_types.specs.declared.port_look.QueueShown.{QueueShown}
@@ -17,11 +13,7 @@ use Rattle.queue_device.specs.declared.lanes.Lane.{Lane}
 use Rattle.queue_device.specs.declared.phase.Phase.{Phase}
 use Rattle.queue_device.specs.declared.phase.Phase.TheVariants as phase
 
-<<<<<<< 8bde38ab
 -- ---- a reply: bytes, numbers of 64 bits, numbers of connections of 32, and queues whose sizes have 16
-=======
--- ---- a reply: bytes, numbers of 64 bits, and queues whose sizes have 16
->>>>>>> m
 
 pub record IsSmallShown (q : QueueShown) : Type 0 where
   pub descriptors : q.descriptors < 2 ^ 64
@@ -33,13 +25,9 @@ abbrev pub IsSmallReply : Reply → Type 0
 IsSmallReply (Reply.Word value) = value < 2 ^ 64
 IsSmallReply (Reply.Bytes piece) = All IsByte piece
 IsSmallReply (Reply.Port look) = IsSmallShown look.first × IsSmallShown look.second × IsSmallShown look.third
-<<<<<<< 8bde38ab
 IsSmallReply (Reply.Opened connection) = connection < 2 ^ 32
 IsSmallReply (Reply.Received piece connection) = (length piece ≤ 64) × All IsByte piece × (connection < 2 ^ 32)
 IsSmallReply (Reply.Dialled connection) = connection < 2 ^ 32
-=======
-IsSmallReply (Reply.Received piece connection) = All IsByte piece
->>>>>>> m
 IsSmallReply reply = Unit {0}
 
 -- a reply fits its act, and is small where each one is

@@ -21,7 +21,6 @@ use crate::device::QueueRounds;
 use crate::kind::Kind;
 use device_trace::Device;
 
-<<<<<<< 8bde38ab
 impl<K: Kind> Device for QueueRounds<K> {
     ghost use Rattle.queue_device.specs.Rounds.{queue_rules};
     ghost use Rattle.queue_device.specs.Service.{Queued};
@@ -33,8 +32,6 @@ impl<K: Kind> Device for QueueRounds<K> {
     ghost rules = { queue_rules K.service K.changing };
 }
 
-=======
->>>>>>> m
 /// Where the kind keeps to its own, so does the device at this port: whatever is replied and changed, each act that it wants is
 /// its own, or asks for guest time where a chain waits that is due and that the kind times by its data of that moment; it asks its
 /// host object for the kind's calls alone, and in a guest of fewer than 2^32 pages it touches no byte outside RAM. That holds from

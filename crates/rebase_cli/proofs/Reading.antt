@@ -2,11 +2,7 @@
 use Rattle.std.proofs.Common.{◌≡◌, ◌∙◌, ◌||◌, ◌⊎◌, inl, inr, Bool, true, false, not, cond, refl, sym, ap, subst, List, [], ◌∷◌, Option, Some, None, option_map, option_and_then, bytes_eq, codes, true≢false}
 use Rattle.std.specs.List.{list_any}
 use Rattle.std.proofs.lemmas.Slice.Eq.{bytes_eq-Decides}
-<<<<<<< 8bde38ab
 use Rattle.std.proofs.lemmas.Bool.{not-true, or_parts}
-=======
-use Rattle.std.proofs.lemmas.Bool.{or_parts}
->>>>>>> m
 use Rattle.clap.specs.Faults.{fault_of, is_simple_and_free}
 use Rattle.clap.specs.Kinds.{Kinds}
 use Rattle.clap.specs.Simple.{Shape, subcommand_of, subcommand_rows_of}

@@ -7,7 +7,8 @@ ghost use Rattle.gate_file.specs.Stages.{LeftMeanwhile};
 ghost use Rattle.rebase_cli.specs.Command.{ConvertsBy, EndCause, EndsBy, TookLine};
 ghost use Rattle.rebase_cli.specs.Ends.{last_line};
 ghost use Rattle.rebase_cli.specs.Said.{conversion_said};
-ghost use Rattle.rebase_cli.specs.Words.{Convert, Names, Rebase, Conversion, edit_in};
+ghost use Rattle.rebase_cli.specs.Words.{Convert, Names, Rebase, edit_in};
+ghost use Rattle.rebase_cli.specs.Words as named;
 ghost use Rattle.snap_diff.specs.Copies.{DiffCopy, MemoryCopy};
 ghost use Rattle.snapshot_merge.specs.Stops.{IsMerged, StandsOn, WasBegun};
 ghost use Rattle.vm_outside.specs.Crashes.{Disk};
@@ -43,7 +44,7 @@ pub fn rebase_main<F: Files, S: Sink>(
     ensures unread { edit_in (map string_bytes words.now) ≡ None → files.new ≡ files.old }
     ensures ends { Tells (F.known files.old).health → (names : Names) → edit_in (map string_bytes words.now) ≡ Some (Rebase names) →
         EndsBy result names (F.known files.old) (F.known files.new) }
-    ensures converts { Tells (F.known files.old).health → (conversion : Conversion) →
+    ensures converts { Tells (F.known files.old).health → (conversion : named.Conversion) →
         edit_in (map string_bytes words.now) ≡ Some (Convert conversion) →
         ConvertsBy result conversion (F.known files.old) (F.known files.new) }
     ensures cause { EndCause result (F.known files.old).health.faults (F.known files.new).health.faults }
@@ -56,7 +57,7 @@ pub fn rebase_main<F: Files, S: Sink>(
         WasBegun names.base names.diff m d file (F.known files.old).calls →
         LeftMeanwhile (F.known files.old).calls (F.known files.new).calls disk →
         StandsOn names.base names.diff m d file disk }
-    ensures spares { Tells (F.known files.old).health → (conversion : Conversion) →
+    ensures spares { Tells (F.known files.old).health → (conversion : named.Conversion) →
         edit_in (map string_bytes words.now) ≡ Some (Convert conversion) → (disk : Disk) →
         LeftMeanwhile (F.known files.old).calls (F.known files.new).calls disk →
         AsBefore (F.known files.old).calls conversion.to disk ⊎ IsShut 64 (disk conversion.to)
@@ -93,7 +94,7 @@ fn run<F: Files>(alloc: Global, words: &[String], files: &mut F) -> End
     ensures unread { edit_in (map string_bytes words.now) ≡ None → files.new ≡ files.old }
     ensures ends { Tells (F.known files.old).health → (names : Names) → edit_in (map string_bytes words.now) ≡ Some (Rebase names) →
         EndsBy result names (F.known files.old) (F.known files.new) }
-    ensures converts { Tells (F.known files.old).health → (conversion : Conversion) →
+    ensures converts { Tells (F.known files.old).health → (conversion : named.Conversion) →
         edit_in (map string_bytes words.now) ≡ Some (Convert conversion) →
         ConvertsBy result conversion (F.known files.old) (F.known files.new) }
     ensures cause { EndCause result (F.known files.old).health.faults (F.known files.new).health.faults }

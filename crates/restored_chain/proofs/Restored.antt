@@ -10,11 +10,7 @@ use Rattle.api_rules.specs.Answers.{no_content}
 use Rattle.api_rules.specs.declared.answer.Answer.{Answer}
 use Rattle.vm_config.specs.declared.change.Change.{Change}
 use Rattle.vm_config.specs.declared.change.Change.TheVariants as change
-<<<<<<< 8bde38ab
 use Rattle.responses.specs.Responses.{Response}
-=======
-use Rattle.response_form.specs.Responses.{Response}
->>>>>>> m
 use Rattle.snap_state.specs.declared.copy.StateCopy.{StateCopy}
 use Rattle.flat_guest.specs.Changes.{reset_guest}
 use Rattle.flat_guest.specs.Guest.{Guest, unwritten}

@@ -4,11 +4,7 @@ ghost use Rattle.http_stream.specs.Stream.{Connection};
 ghost use Rattle.api_calls.specs.declared.call.SnapshotLoad.{SnapshotLoad};
 ghost use Rattle.api_rules.specs.Answers.{no_content};
 ghost use Rattle.script_text.specs.declared.item.Item.{Item};
-<<<<<<< 8bde38ab
 ghost use Rattle.responses.specs.Responses.{Response};
-=======
-ghost use Rattle.response_form.specs.Responses.{Response};
->>>>>>> m
 ghost use Rattle.snapshot_merge.specs.InOrder.{MergeAll};
 ghost use Rattle.snapshot_chain.specs.Chains.{Saving, snapshot_of};
 ghost use Rattle.flat_machine.specs.Machine.{Machine};

@@ -12,11 +12,7 @@ use Rattle.api_calls.specs.declared.call.ApiCall.{ApiCall}
 use Rattle.api_calls.specs.Call.{◌>>=◌, call_of}
 use Rattle.api_rules.specs.Table.{decision}
 use Rattle.vm_config.specs.declared.change.Change.{Change}
-<<<<<<< 8bde38ab
 use Rattle.responses.specs.Responses.{Response}
-=======
-use Rattle.response_form.specs.Responses.{Response}
->>>>>>> m
 use Rattle.guest_devices.specs.declared.device.Device.{Device}
 use Rattle.flat_machine.specs.Items.{TalkLines}
 use Rattle.flat_machine.specs.Machine.{Machine, phase_of}

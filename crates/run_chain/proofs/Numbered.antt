@@ -1,15 +1,8 @@
 -- What the lines of a round and of the load ask for: each of 64 numbers is computed.
-<<<<<<< 8bde38ab
 use Rattle.std.proofs.Common.{◌≡◌, ◌≤◌, ◌+◌, ◌==◌, ℕ, zero, suc, Bool, true, false, ◌&&◌, not, nat_le, refl, ap, ◌∙◌, subst, sym, List, ◌++◌, length, codes, Result, Ok, Err, arith}
 use Rattle.std.specs.Fmt.{decimal}
 use Rattle.std.specs.Str.{bytes_eq}
 use Rattle.std.proofs.lemmas.Bool.{and_parts, eqb-true, leb-false, leb-true, not-true}
-=======
-use Rattle.std.proofs.Common.{◌≡◌, ◌≤◌, ◌+◌, ◌==◌, ℕ, zero, suc, Bool, true, false, ◌&&◌, not, nat_le, refl, ap, ◌∙◌, subst, sym, List, [], ◌∷◌, ◌++◌, length, codes, Result, Ok, Err, arith}
-use Rattle.std.specs.Fmt.{decimal}
-use Rattle.std.specs.Str.{bytes_eq}
-use Rattle.std.proofs.lemmas.Bool.{and_parts, eqb-true, leb-false, leb-true}
->>>>>>> m
 use Rattle.std.proofs.lemmas.Slice.Eq.{bytes_eq-Decides}
 use Rattle.refusals.specs.declared.refusal.Refusal.{Refusal}
 use Rattle.httparse.specs.Grammar.{print_request}
@@ -98,17 +91,11 @@ diff_of i (Ok (call.PutInterface interface)) is = absurd cc
 diff_of i (Ok (call.PatchInterface patch)) is = absurd cc
 diff_of i (Ok (call.PutMachineConfig machine)) is = absurd cc
 diff_of i (Ok (call.PatchMachineConfig patch)) is = absurd cc
-<<<<<<< 8bde38ab
 diff_of i (Ok (call.PutVsock vsock)) is = absurd cc
 diff_of i (Ok (call.PutBalloon balloon)) is = absurd cc
 diff_of i (Ok (call.PatchBalloon patch)) is = absurd cc
 diff_of i (Ok (call.PatchStatistics patch)) is = absurd cc
 diff_of i (Ok (call.PutMmdsConfig mmds)) is = absurd cc
-=======
-diff_of i (Ok (call.PutBalloon balloon)) is = absurd cc
-diff_of i (Ok (call.PatchBalloon patch)) is = absurd cc
-diff_of i (Ok (call.PatchStatistics patch)) is = absurd cc
->>>>>>> m
 diff_of i (Ok (call.PutMetadata body)) is = absurd cc
 diff_of i (Ok (call.PatchMetadata patch)) is = absurd cc
 diff_of i (Ok call.InstanceStart) is = absurd cc
@@ -161,13 +148,6 @@ is_load_of i (Ok (call.LoadSnapshot it)) =
     && (not it.track_dirty_pages && not it.resume_vm)
 is_load_of i r = false
 
-<<<<<<< 8bde38ab
-=======
-not_set : (b : Bool) → not b ≡ true → b ≡ false
-not_set true is = absurd cc
-not_set false is = refl
-
->>>>>>> m
 load_of : (i : ℕ) (r : Result ApiCall Refusal) → is_load_of i r ≡ true
     → r ≡ made_load (codes "s" ++ decimal i) (codes "m0") false false
 load_of i (Ok (call.LoadSnapshot it)) is =
@@ -178,13 +158,8 @@ load_of i (Ok (call.LoadSnapshot it)) is =
     let memory : it.files.mem_file_path ≡ codes "m0" = (bytes_eq-Decides it.files.mem_file_path (codes "m0")).0 p0.1 in
     ap (λ (l : List ℕ). made_load l it.files.mem_file_path it.track_dirty_pages it.resume_vm) state
     ∙ ap (λ (l : List ℕ). made_load (codes "s" ++ decimal i) l it.track_dirty_pages it.resume_vm) memory
-<<<<<<< 8bde38ab
     ∙ ap (λ (b : Bool). made_load (codes "s" ++ decimal i) (codes "m0") b it.resume_vm) (not-true it.track_dirty_pages flags.0)
     ∙ ap (λ (b : Bool). made_load (codes "s" ++ decimal i) (codes "m0") false b) (not-true it.resume_vm flags.1)
-=======
-    ∙ ap (λ (b : Bool). made_load (codes "s" ++ decimal i) (codes "m0") b it.resume_vm) (not_set it.track_dirty_pages flags.0)
-    ∙ ap (λ (b : Bool). made_load (codes "s" ++ decimal i) (codes "m0") false b) (not_set it.resume_vm flags.1)
->>>>>>> m
 load_of i (Ok (call.PutBootSource source)) is = absurd cc
 load_of i (Ok (call.PutDrive drive)) is = absurd cc
 load_of i (Ok (call.PatchDrive patch)) is = absurd cc
@@ -192,17 +167,11 @@ load_of i (Ok (call.PutInterface interface)) is = absurd cc
 load_of i (Ok (call.PatchInterface patch)) is = absurd cc
 load_of i (Ok (call.PutMachineConfig machine)) is = absurd cc
 load_of i (Ok (call.PatchMachineConfig patch)) is = absurd cc
-<<<<<<< 8bde38ab
 load_of i (Ok (call.PutVsock vsock)) is = absurd cc
 load_of i (Ok (call.PutBalloon balloon)) is = absurd cc
 load_of i (Ok (call.PatchBalloon patch)) is = absurd cc
 load_of i (Ok (call.PatchStatistics patch)) is = absurd cc
 load_of i (Ok (call.PutMmdsConfig mmds)) is = absurd cc
-=======
-load_of i (Ok (call.PutBalloon balloon)) is = absurd cc
-load_of i (Ok (call.PatchBalloon patch)) is = absurd cc
-load_of i (Ok (call.PatchStatistics patch)) is = absurd cc
->>>>>>> m
 load_of i (Ok (call.PutMetadata body)) is = absurd cc
 load_of i (Ok (call.PatchMetadata patch)) is = absurd cc
 load_of i (Ok call.InstanceStart) is = absurd cc

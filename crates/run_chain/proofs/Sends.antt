@@ -3,11 +3,7 @@ use Rattle.std.proofs.Common.{◌≡◌, ◌≤◌, ◌+◌, ℕ, zero, suc, Boo
 use Rattle.std.specs.Fmt.{decimal}
 use Rattle.std.specs.List.{All, list_all}
 use Rattle.std.specs.Str.{is_utf8}
-<<<<<<< 8bde38ab
 use Rattle.std.proofs.lemmas.Bool.{and_parts, and_right, le-leb, leb-true, ltb-true}
-=======
-use Rattle.std.proofs.lemmas.Bool.{and_parts, le-leb, leb-true, ltb-true}
->>>>>>> m
 use Rattle.std.proofs.lemmas.List.{append-nil}
 use Rattle.std.specs.Prelude.{IsTrue}
 use Rattle.std.proofs.lemmas.List.Elements.{All-cons, All-nil}
@@ -118,13 +114,6 @@ none_left : (xs : List ℕ) → drop (length xs) xs ≡ []
 none_left [] = refl
 none_left (x ∷ xs) = none_left xs
 
-<<<<<<< 8bde38ab
-=======
-and_false : (b : Bool) → (b && false) ≡ false
-and_false true = refl
-and_false false = refl
-
->>>>>>> m
 abbrev pub read_as : List ℕ → List ℕ → ℕ → List ℕ → Request
 read_as method path n body =
     record { method = method; path = path; headers = headers_of (head_of method path n); body = body }
@@ -151,11 +140,7 @@ module _ (method path body : List ℕ) (n : ℕ) (long : length body ≡ n) (goo
   late : is_early (sent method path body) ≡ false
   late =
       ap (λ (b : Bool). nat_le (length (sent method path body)) 8192 && not b) line
-<<<<<<< 8bde38ab
       ∙ and_right (nat_le (length (sent method path body)) 8192) false refl
-=======
-      ∙ and_false (nat_le (length (sent method path body)) 8192)
->>>>>>> m
 
   reads : ReadsRequest (window (sent method path body)) h body
   reads = (is_head_of method path n good, all_of 8192 (sent method path body) fits ∙ sent_as)

@@ -128,11 +128,7 @@ module _ (b : QueueRounds Kept) (is : is_state b ≡ true) (few : b.rounds.pages
     (short : AreShort true b.rounds) (narrow : IsNarrowPhase b.phase) (small : IsSmallStage b.kind.stage)
     (own : IsSizedData true b.kind.own) where
   parts : TestParts balloons.balloon true is_work b.phase b.rounds b.kind.stage
-<<<<<<< 8bde38ab
   parts = facts balloons.balloon true is_work b.phase b.rounds b.kind.stage is few port short
-=======
-  parts = facts balloons.balloon is_work b.phase b.rounds b.kind.stage is few port short
->>>>>>> m
 
   pub balloon_fits : balloon.Fits b
   unfolding balloon balloon_fields kind kind_fields
@@ -140,15 +136,9 @@ module _ (b : QueueRounds Kept) (is : is_state b ≡ true) (few : b.rounds.pages
       let kept = stage_fits b.rounds.pages few (work_of b.phase) b.kind.stage parts.works small in
       let small_own = own refl in (
         (
-<<<<<<< 8bde38ab
           rounds_fit balloons.balloon true is_work b.phase b.rounds b.kind.stage is few port short,
           (
             place_fits balloons.balloon true is_work b.phase b.rounds b.kind.stage is few port short b.phase parts.place narrow,
-=======
-          rounds_fit balloons.balloon is_work b.phase b.rounds b.kind.stage is few port short,
-          (
-            place_fits balloons.balloon is_work b.phase b.rounds b.kind.stage is few port short b.phase parts.place narrow,
->>>>>>> m
             (
               (
                 fits16 b.kind.own.interval small_own.interval,

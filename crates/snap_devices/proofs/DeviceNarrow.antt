@@ -6,26 +6,17 @@ use Rattle.snap_devices.specs.Devices.{device}
 use Rattle.snap_devices.proofs.Narrow.{HoldsBlock, block_is}
 use Rattle.snap_devices.proofs.BalloonNarrow.{HoldsBalloon, balloon_is}
 use Rattle.snap_devices.proofs.NetNarrow.{HoldsNet, net_is}
-<<<<<<< 8bde38ab
 use Rattle.snap_devices.proofs.VsockNarrow.{HoldsVsock, vsock_is}
-=======
->>>>>>> m
 
 -- what a device holds are bytes
 abbrev pub HoldsBytes : Device → Type 0
 HoldsBytes (kept.Block b) = HoldsBlock b
 HoldsBytes (kept.Net n) = HoldsNet n
-<<<<<<< 8bde38ab
 HoldsBytes (kept.Vsock v) = HoldsVsock v
-=======
->>>>>>> m
 HoldsBytes (kept.Balloon b) = HoldsBalloon b
 
 pub device_narrow : (d : Device) → device.Fits d → HoldsBytes d → IsNarrowKept d
 device_narrow (kept.Block b) own bytes = block_is b own bytes
 device_narrow (kept.Net n) own bytes = net_is n own bytes
-<<<<<<< 8bde38ab
 device_narrow (kept.Vsock v) own bytes = vsock_is v own bytes
-=======
->>>>>>> m
 device_narrow (kept.Balloon b) own bytes = balloon_is b own bytes

@@ -34,11 +34,7 @@ use Rattle.block_device.specs.Working.{IsAt, IsSizedData, IsSmallAt, IsSmallStag
 use Rattle.queue_device.proofs.Pieces.{total_most}
 use Rattle.guest_devices.specs.declared.device.Device.{Device}
 use Rattle.guest_devices.specs.declared.device.Device.TheVariants as kept
-<<<<<<< 8bde38ab
 use Rattle.guest_devices.specs.Kept.{device_pages, device_port, is_kept, is_saved, is_sized, kept_of, is_state_kept}
-=======
-use Rattle.guest_devices.specs.Kept.{device_pages, device_port, is_kept, is_sized, kept_of, is_state_kept}
->>>>>>> m
 use Rattle.guest_devices.specs.Narrow.{IsNarrowKept}
 use Rattle.snap_devices.specs.declared.file.FileDue.{FileDue}
 use Rattle.snap_devices.specs.declared.file.FileDue.TheVariants.{Look, Walk, Idle}
@@ -53,10 +49,7 @@ use Rattle.snap_devices.proofs.Forms.{stands}
 use Rattle.snap_devices.proofs.PieceFits.{begun_fits, break_fits, collect_fits, hand_fits, parts_fit, queue_fits, return_fits, shown_of, waiting_fits}
 use Rattle.snap_devices.proofs.LimitsFits.{bucket_by}
 use Rattle.snap_devices.proofs.NetFits.{net_fits}
-<<<<<<< 8bde38ab
 use Rattle.snap_devices.proofs.VsockFits.{vsock_fits}
-=======
->>>>>>> m
 use Rattle.block_device.specs.Block.{block as service_of}
 use Rattle.block_device.specs.Serving.{IsStage as IsServing}
 use Rattle.block_device.proofs.Kept.{work_of as work_parts}
@@ -233,7 +226,6 @@ module _ (b : QueueRounds BlockKind) (is : is_state b ≡ true) (few : b.rounds.
         ),
       )
 
-<<<<<<< 8bde38ab
 -- a device that the code may keep and a file may have, of such a guest
 pub device_fits : (d : Device) → is_kept d ≡ true → is_saved d ≡ true → IsNarrowKept d → device_pages d ≤ 2 ^ 18
     → device_port d < 2 ^ 8 → device.Fits d
@@ -248,17 +240,5 @@ device_fits (kept.Vsock v) is saved narrow few port =
     let both = and_parts (is_state_kept (kept_of (kept.Vsock v))) (is_sized (kept_of (kept.Vsock v))) is in
     (fits8 3 (omega arith), (refl, vsock_fits v both.0 saved few port narrow.0 narrow.1 narrow.2 narrow.3))
 device_fits (kept.Balloon b) is saved narrow few port =
-=======
--- a device that the code may keep, of such a guest
-pub device_fits : (d : Device) → is_kept d ≡ true → IsNarrowKept d → device_pages d ≤ 2 ^ 18 → device_port d < 2 ^ 8 → device.Fits d
-unfolding device
-device_fits (kept.Block b) is narrow few port =
-    let both = and_parts (is_state_kept (kept_of (kept.Block b))) (is_sized (kept_of (kept.Block b))) is in
-    (fits8 1 (omega arith), (refl, block_fits b both.0 few port narrow.0 narrow.1 narrow.2 narrow.3))
-device_fits (kept.Net n) is narrow few port =
-    let both = and_parts (is_state_kept (kept_of (kept.Net n))) (is_sized (kept_of (kept.Net n))) is in
-    (fits8 0 (omega arith), (refl, net_fits n both.0 few port narrow.0 narrow.1 narrow.2 narrow.3))
-device_fits (kept.Balloon b) is narrow few port =
->>>>>>> m
     let both = and_parts (is_state_kept (kept_of (kept.Balloon b))) (is_sized (kept_of (kept.Balloon b))) is in
     (fits8 2 (omega arith), (refl, balloon_fits b both.0 few port narrow.0 narrow.1 narrow.2 narrow.3))

@@ -1,10 +1,6 @@
 -- What a block device keeps in a state that it may be in is what its form in a file stands for.
 use Rattle.std.proofs.Common.{◌≡◌, ℕ, ◌==◌, ◌+◌, refl, sym, ap, subst, ◌∙◌, Bool, true, false, ◌&&◌, not, if◌then◌else◌, Option, Some, None, is_some, List, length}
-<<<<<<< 8bde38ab
 use Rattle.std.proofs.lemmas.Bool.{and_from, and_parts, eqb-true, not-true}
-=======
-use Rattle.std.proofs.lemmas.Bool.{and_from, and_parts, eqb-true}
->>>>>>> m
 use Rattle.vq_split.specs.declared.queue.Part.{Part}
 use Rattle.vq_split.specs.declared.queue.Queue.{Queue}
 use Rattle.vq_split.specs.Kept.{is_sound}
@@ -25,10 +21,7 @@ use Rattle.queue_device.specs.Confined.{are_lanes, is_lane, is_queue}
 use Rattle.queue_device.specs.Kept.{are_kept, are_own_lanes, is_at_lane, is_in_hand, is_new, is_next, is_of_round, is_over, is_own_lane}
 use Rattle.queue_device.specs.Kept.{is_place, is_same_queue, is_taken_of, is_told, work_of}
 use Rattle.queue_device.specs.Lanes.{lane_of, new_lane}
-<<<<<<< 8bde38ab
 use Rattle.queue_device.proofs.Places.{round_some}
-=======
->>>>>>> m
 use Rattle.block_device.specs.declared.kind.BlockKind.{BlockKind}
 use Rattle.block_device.specs.declared.work.BlockStage.{BlockStage}
 use Rattle.block_device.specs.declared.work.BlockStage.TheVariants as at
@@ -50,13 +43,6 @@ none_of : {A : Type 0} (o : Option A) → not (is_some o) ≡ true → o ≡ Non
 none_of None is = refl
 none_of (Some a) is = absurd (cc)
 
-<<<<<<< 8bde38ab
-=======
-no_flag : (b : Bool) → not b ≡ true → b ≡ false
-no_flag false is = refl
-no_flag true is = absurd (cc)
-
->>>>>>> m
 new_is : (l : Lane) → is_new l ≡ true → l ≡ new_lane
 new_is l is =
     let d = and_parts _ (not l.is_kicked) is in
@@ -68,11 +54,7 @@ new_is l is =
       waiting = none_of l.waiting a.1 i;
       next = eqb-true l.next 0 b.1 i;
       used = eqb-true l.used 0 c.1 i;
-<<<<<<< 8bde38ab
       is_kicked = not-true l.is_kicked d.1 i;
-=======
-      is_kicked = no_flag l.is_kicked d.1 i;
->>>>>>> m
     }
 
 some_is : (o : Option Queue) (pages : ℕ) → is_some o ≡ true → o ≡ Some (queue_filed pages o)
@@ -101,13 +83,6 @@ of_round : (o : Option Queue) (q : Queue) (pages : ℕ) → is_of_round o q ≡ 
 of_round None q pages is = absurd (cc)
 of_round (Some shown) q pages is = same_is shown q is
 
-<<<<<<< 8bde38ab
-=======
-round_some : (o : Option Queue) (q : Queue) → is_of_round o q ≡ true → is_some o ≡ true
-round_some None q is = is
-round_some (Some shown) q is = refl
-
->>>>>>> m
 -- ---- the rounds that may be kept: one lane, and the others new
 
 record OneLane (r : Rounds) : Type 0 where

@@ -19,15 +19,12 @@ use Rattle.net_device.specs.declared.kind.Stage as net
 use Rattle.net_device.specs.declared.kind.Stage.TheVariants as net_at
 use Rattle.net_device.specs.Work as net_work
 use Rattle.snap_devices.specs.Nets as nets
-<<<<<<< 8bde38ab
 use Rattle.vsock_device.specs.declared.data.InHand.{InHand}
 use Rattle.vsock_device.specs.declared.data.InHand.TheVariants as hand
 use Rattle.vsock_device.specs.declared.kind.Stage as vsock
 use Rattle.vsock_device.specs.declared.kind.Stage.TheVariants as vsock_at
 use Rattle.vsock_device.specs.declared.kind.VsockKind.{VsockKind}
 use Rattle.snap_devices.specs.Vsocks as vsocks
-=======
->>>>>>> m
 use Rattle.balloon_device.specs.declared.kind.Stage.{Stage}
 use Rattle.balloon_device.specs.declared.kind.Stage.TheVariants as at
 use Rattle.balloon_device.specs.Work.{Kept}
@@ -48,10 +45,7 @@ use Rattle.snap_devices.proofs.BalloonNarrow.{HoldsBalloon, HoldsStage}
 use Rattle.snap_devices.proofs.DeviceNarrow.{HoldsBytes}
 use Rattle.snap_devices.proofs.RoundsNarrow.{AreAllHeld}
 use Rattle.snap_devices.proofs.NetNarrow.{HoldsNet, HoldsPiece}
-<<<<<<< 8bde38ab
 use Rattle.snap_devices.proofs.VsockNarrow.{HoldsAct, HoldsPacket, HoldsVsock}
-=======
->>>>>>> m
 use Rattle.snap_devices.proofs.Narrow.{AreHeld, HoldsBlock}
 
 pub front : (a b : List ℕ) → IsBytes (a ++ b) → IsBytes a
@@ -192,7 +186,6 @@ net_held n is =
       rounds_held n.rounds (front (rounds.bytes n.rounds) _ is),
     )
 
-<<<<<<< 8bde38ab
 -- ---- a vsock device
 
 vsock_piece_held : (h : InHand) → IsBytes (vsocks.in_hand.bytes h) → HoldsPacket h
@@ -246,14 +239,9 @@ vsock_held v is =
       rounds_held v.rounds (front (rounds.bytes v.rounds) _ is),
     )
 
-=======
->>>>>>> m
 pub device_held : (d : Device) → IsBytes (device.bytes d) → HoldsBytes d
 unfolding device
 device_held (kept.Block b) is = block_held b (behind (byte.bytes 1) (block.bytes b) is)
 device_held (kept.Net n) is = net_held n (behind (byte.bytes 0) (nets.net.bytes n) is)
-<<<<<<< 8bde38ab
 device_held (kept.Vsock v) is = vsock_held v (behind (byte.bytes 3) (vsocks.vsock.bytes v) is)
-=======
->>>>>>> m
 device_held (kept.Balloon b) is = balloon_held b (behind (byte.bytes 2) (balloon.bytes b) is)

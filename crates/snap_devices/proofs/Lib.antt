@@ -14,10 +14,7 @@ pub mod Ports
 pub mod Reading
 pub mod RoundsFits
 pub mod RoundsNarrow
-<<<<<<< 8bde38ab
 pub mod VsockFits
 pub mod VsockNarrow
-=======
->>>>>>> m
 pub mod Writing
 pub mod Three

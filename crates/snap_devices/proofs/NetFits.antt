@@ -137,11 +137,7 @@ module _ (n : QueueRounds Kept) (is : is_state n ≡ true) (few : n.rounds.pages
     (short : AreShort true n.rounds) (narrow : IsNarrowPhase n.phase) (small : IsSmallWork n.kind.doing)
     (own : IsSizedData true n.kind.own) where
   parts : TestParts nets.net true is_work n.phase n.rounds n.kind.doing
-<<<<<<< 8bde38ab
   parts = facts nets.net true is_work n.phase n.rounds n.kind.doing is few port short
-=======
-  parts = facts nets.net is_work n.phase n.rounds n.kind.doing is few port short
->>>>>>> m
 
   pub net_fits : net.Fits n
   unfolding net net_fields kind kind_fields
@@ -149,15 +145,9 @@ module _ (n : QueueRounds Kept) (is : is_state n ≡ true) (few : n.rounds.pages
       let kept = stage_fits n.rounds.pages few (work_of n.phase) n.kind.doing.stage n.kind.doing.bytes parts.works small in
       let small_own = own refl in (
         (
-<<<<<<< 8bde38ab
           rounds_fit nets.net true is_work n.phase n.rounds n.kind.doing is few port short,
           (
             place_fits nets.net true is_work n.phase n.rounds n.kind.doing is few port short n.phase parts.place narrow,
-=======
-          rounds_fit nets.net is_work n.phase n.rounds n.kind.doing is few port short,
-          (
-            place_fits nets.net is_work n.phase n.rounds n.kind.doing is few port short n.phase parts.place narrow,
->>>>>>> m
             (
               (
                 text_fits n.kind.own.text small_own.text,

@@ -1,30 +1,20 @@
 -- A block device is read by its form and what stands behind it, and so is a device.
-<<<<<<< 8bde38ab
 use Rattle.std.proofs.Common.{◌≡◌, ℕ, zero, suc, refl, sym, ap, subst, ◌∙◌, Bool, true, false, if◌then◌else◌, ◌<◌, nat_lt, List, length, Option, Some, None}
 use Rattle.std.proofs.lemmas.Bool.{and_from, lt-ltb}
-=======
-use Rattle.std.proofs.Common.{◌≡◌, ℕ, zero, suc, refl, sym, ap, ◌∙◌, Bool, true, false, if◌then◌else◌, List, Option, Some, None}
->>>>>>> m
 use Rattle.std.specs.Option.{option_and_then}
 use Rattle.file_format.specs.Ends.{end_at, ended, whole}
 use Rattle.file_format.specs.Format.{Format}
 use Rattle.file_format.specs.Kinds.{byte, passing}
-<<<<<<< 8bde38ab
 use Rattle.dev_core.specs.declared.collect.Collect.{Collect}
 use Rattle.dev_core.specs.Pieces.{room}
-=======
->>>>>>> m
 use Rattle.queue_device.specs.declared.device.QueueRounds.{QueueRounds}
 use Rattle.block_device.specs.declared.kind.BlockKind.{BlockKind}
 use Rattle.net_device.specs.States as nets
 use Rattle.net_device.specs.Work as net_work
-<<<<<<< 8bde38ab
 use Rattle.vsock_device.specs.declared.kind.VsockKind.{VsockKind}
 use Rattle.vsock_device.specs.Reset.{is_unconnected}
 use Rattle.vsock_device.specs.States as vsocks
 use Rattle.vsock_device.specs.Work.{is_fetching}
-=======
->>>>>>> m
 use Rattle.balloon_device.specs.States as balloons
 use Rattle.balloon_device.specs.Work as balloon_work
 use Rattle.guest_devices.specs.declared.device.Device.{Device}
@@ -37,10 +27,7 @@ use Rattle.snap_devices.specs.Devices.{device, devices}
 use Rattle.snap_devices.specs.Forms.{is_form, kept_of}
 use Rattle.snap_devices.specs.Limits.{end_of_device}
 use Rattle.snap_devices.specs.Nets.{net, net_fields}
-<<<<<<< 8bde38ab
 use Rattle.snap_devices.specs.Vsocks.{vsock, vsock_fields}
-=======
->>>>>>> m
 
 abbrev Whole : Type 0
 Whole = FileBlock × FileMore
@@ -87,7 +74,6 @@ reads_as given rest f m o read end is = with_end given rest f (Some m) read end 
 
 -- ---- a device
 
-<<<<<<< 8bde38ab
 pub other_kind : (code : ℕ) (given : List ℕ) → (code ≡ 0 → ⊥) → (code ≡ 1 → ⊥) → (code ≡ 2 → ⊥) → (code ≡ 3 → ⊥)
     → (devices code).reads given ≡ None
 other_kind zero given first one two three = absurd (first refl)
@@ -95,14 +81,6 @@ other_kind (suc zero) given first one two three = absurd (one refl)
 other_kind (suc (suc zero)) given first one two three = absurd (two refl)
 other_kind (suc (suc (suc zero))) given first one two three = absurd (three refl)
 other_kind (suc (suc (suc (suc n)))) given first one two three = refl
-=======
-pub other_kind : (code : ℕ) (given : List ℕ) → (code ≡ 0 → ⊥) → (code ≡ 1 → ⊥) → (code ≡ 2 → ⊥)
-    → (devices code).reads given ≡ None
-other_kind zero given first one two = absurd (first refl)
-other_kind (suc zero) given first one two = absurd (one refl)
-other_kind (suc (suc zero)) given first one two = absurd (two refl)
-other_kind (suc (suc (suc n))) given first one two = refl
->>>>>>> m
 
 pub kind_bad : (given : List ℕ) → byte.reads given ≡ None → device.reads given ≡ None
 unfolding device
@@ -151,11 +129,7 @@ module _ {A : Type 0} (test : A → Bool) (fields : Format A) where
       → None ≡ (if test a then Some a else None) → (passing test fields).reads given ≡ None
   passed_refused given rest a read is = ap (option_and_then passed_if) read ∙ none_read (test a) a rest is
 
-<<<<<<< 8bde38ab
 -- a network device, a balloon and a vsock device are read where they are in a state that they may be in
-=======
--- a network device, and a balloon, are read where they are in a state that they may be in
->>>>>>> m
 
 pub net_read : (given rest : List ℕ) (n it : QueueRounds net_work.Kept) → net_fields.reads given ≡ Some (n, rest)
     → Some it ≡ (if nets.is_state n then Some n else None) → net.reads given ≡ Some (it, rest)
@@ -177,7 +151,6 @@ pub balloon_refused : (given rest : List ℕ) (b : QueueRounds balloon_work.Kept
 unfolding balloon
 balloon_refused given rest b read is = passed_refused balloons.is_state balloon_fields given rest b read is
 
-<<<<<<< 8bde38ab
 pub vsock_read : (given rest : List ℕ) (v it : QueueRounds VsockKind) → vsock_fields.reads given ≡ Some (v, rest)
     → Some it ≡ (if vsocks.is_state v then Some v else None) → vsock.reads given ≡ Some (it, rest)
 unfolding vsock
@@ -198,8 +171,6 @@ pub vsock_gone : (v it : QueueRounds VsockKind) → Some it ≡ (if vsocks.is_st
 vsock_gone v it is gone =
     subst (λ (x : QueueRounds VsockKind). is_unconnected x.kind.own ≡ true) (sym (one_same (vsocks.is_state v) v it is)) gone
 
-=======
->>>>>>> m
 -- ---- a device that is one of these
 
 pub net_is : (given rest : List ℕ) (n : QueueRounds net_work.Kept) → byte.reads given ≡ Some (0, rest)
@@ -222,7 +193,6 @@ pub balloon_none : (given rest : List ℕ) → byte.reads given ≡ Some (2, res
 balloon_none given rest read is =
     kind_read given rest 2 None read (ap (option_and_then (λ (a : QueueRounds balloon_work.Kept). Some (kept.Balloon a))) is)
 
-<<<<<<< 8bde38ab
 pub vsock_is : (given rest : List ℕ) (v : QueueRounds VsockKind) → byte.reads given ≡ Some (3, rest)
     → (whole vsock).reads rest ≡ Some v → device.reads given ≡ Some (kept.Vsock v)
 vsock_is given rest v read is =
@@ -242,8 +212,3 @@ other_none given rest code read first one two three = kind_read given rest code 
 pub is_fetched : (from : Collect) → length from.held < 44 → 0 < room from.from → is_fetching from ≡ true
 is_fetched from short more =
     and_from (nat_lt (length from.held) 44) (nat_lt 0 (room from.from)) (lt-ltb _ _ short) (lt-ltb _ _ more)
-=======
-pub other_none : (given rest : List ℕ) (code : ℕ) → byte.reads given ≡ Some (code, rest) → (code ≡ 0 → ⊥) → (code ≡ 1 → ⊥)
-    → (code ≡ 2 → ⊥) → device.reads given ≡ None
-other_none given rest code read first one two = kind_read given rest code None read (other_kind code rest first one two)
->>>>>>> m

@@ -37,21 +37,12 @@ next_fits due.Question = (fits8 1 (omega arith), refl)
 next_fits (due.Lane k) = (fits8 2 (omega arith), (refl, which_fits k))
 next_fits due.Wait = (fits8 3 (omega arith), refl)
 
-<<<<<<< 8bde38ab
 -- ---- any device with queues, whose chains may wait or may not, of a guest of at most 2^18 pages, at a port whose number is a byte
 
 module _ {E G : Type 0} (s : Service E) (times : Bool) (works : Work → ℕ → G → Bool) (p : Phase) (r : Rounds) (g : G)
     (is : is_state s times works p r g ≡ true) (few : r.pages ≤ 2 ^ 18) (port : r.port < 2 ^ 8) (short : AreShort true r) where
   pub facts : TestParts s times works p r g
   facts = test_parts s times works p r g is
-=======
--- ---- any device with queues whose chains may wait, of a guest of at most 2^18 pages, at a port whose number is a byte
-
-module _ {E G : Type 0} (s : Service E) (works : Work → ℕ → G → Bool) (p : Phase) (r : Rounds) (g : G)
-    (is : is_state s true works p r g ≡ true) (few : r.pages ≤ 2 ^ 18) (port : r.port < 2 ^ 8) (short : AreShort true r) where
-  pub facts : TestParts s true works p r g
-  facts = test_parts s true works p r g is
->>>>>>> m
 
   lane_fits : (k : Which) → lane.Fits (lane_of k r)
   unfolding lane
@@ -59,13 +50,8 @@ module _ {E G : Type 0} (s : Service E) (works : Work → ℕ → G → Bool) (p
       let it = (short_of true k r short).1 refl in (
         (fits16 (lane_of k r).next it.next, (fits16 (lane_of k r).used it.used, fits_flag (lane_of k r).is_kicked)),
         (
-<<<<<<< 8bde38ab
           lane_queue_fits s times r facts.are few short k,
           waiting_fits s times r facts.are few short k,
-=======
-          lane_queue_fits s true r facts.are few short k,
-          waiting_fits s true r facts.are few short k,
->>>>>>> m
         ),
       )
 
@@ -76,7 +62,6 @@ module _ {E G : Type 0} (s : Service E) (works : Work → ℕ → G → Bool) (p
     (lane_fits First, (lane_fits Second, lane_fits Third)),
   )
 
-<<<<<<< 8bde38ab
   in_hand : (c : InHand) → is_in_hand times c r ≡ true → IsHead c.head → hand.Fits c
   unfolding hand hand_fields
   in_hand c is head =
@@ -84,21 +69,11 @@ module _ {E G : Type 0} (s : Service E) (works : Work → ℕ → G → Bool) (p
       ((which_fits c.which, (hand_fits s times r facts.are few short c is, fits16 c.head head)), sound)
 
   pub place_fits : (at : Phase) → is_place times at r ≡ true → IsNarrowPhase at → place.Fits at
-=======
-  in_hand : (c : InHand) → is_in_hand true c r ≡ true → IsHead c.head → hand.Fits c
-  unfolding hand hand_fields
-  in_hand c is head =
-      let sound = (and_parts _ _ (and_parts _ _ is).0).0 in
-      ((which_fits c.which, (hand_fits s true r facts.are few short c is, fits16 c.head head)), sound)
-
-  pub place_fits : (at : Phase) → is_place true at r ≡ true → IsNarrowPhase at → place.Fits at
->>>>>>> m
   unfolding place
   place_fits phase.Between there narrow = (fits8 0 (omega arith), refl)
   place_fits phase.Question there narrow = (fits8 1 (omega arith), refl)
   place_fits (phase.Walk k w) there narrow =
       let on = and_parts (is_at_lane r.due) (is_walked (lane_of k r) w) there in
-<<<<<<< 8bde38ab
       (fits8 2 (omega arith), (refl, (which_fits k, begun_fits s times r facts.are few short k w on.1 narrow)))
   place_fits (phase.Take c) there narrow =
       let on = and_parts (is_at_lane r.due) (is_in_hand times c r) there in
@@ -109,17 +84,5 @@ module _ {E G : Type 0} (s : Service E) (works : Work → ℕ → G → Bool) (p
   place_fits (phase.Return c len stage) there narrow =
       let told = and_parts _ (is_told stage len c.head) there in
       let on = and_parts (is_at_lane r.due) (is_in_hand times c r) told.0 in
-=======
-      (fits8 2 (omega arith), (refl, (which_fits k, begun_fits s true r facts.are few short k w on.1 narrow)))
-  place_fits (phase.Take c) there narrow =
-      let on = and_parts (is_at_lane r.due) (is_in_hand true c r) there in
-      (fits8 3 (omega arith), (refl, in_hand c on.1 narrow))
-  place_fits (phase.Serve c) there narrow =
-      let on = and_parts (is_at_lane r.due) (is_in_hand true c r) there in
-      (fits8 4 (omega arith), (refl, in_hand c on.1 narrow))
-  place_fits (phase.Return c len stage) there narrow =
-      let told = and_parts _ (is_told stage len c.head) there in
-      let on = and_parts (is_at_lane r.due) (is_in_hand true c r) told.0 in
->>>>>>> m
       (fits8 5 (omega arith), (refl, (fits32 len narrow.1, (return_fits stage, in_hand c on.1 narrow.0))))
   place_fits (phase.Break k stage) there narrow = (fits8 6 (omega arith), (refl, (which_fits k, break_fits stage)))

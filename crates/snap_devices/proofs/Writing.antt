@@ -6,10 +6,7 @@ use Rattle.queue_device.specs.declared.device.QueueRounds.{QueueRounds}
 use Rattle.block_device.specs.declared.kind.BlockKind.{BlockKind}
 use Rattle.block_device.specs.States.{is_state}
 use Rattle.net_device.specs.Work as net_work
-<<<<<<< 8bde38ab
 use Rattle.vsock_device.specs.declared.kind.VsockKind.{VsockKind}
-=======
->>>>>>> m
 use Rattle.balloon_device.specs.Work as balloon_work
 use Rattle.guest_devices.specs.declared.device.Device.{Device}
 use Rattle.guest_devices.specs.declared.device.Device.TheVariants as kept
@@ -20,10 +17,7 @@ use Rattle.snap_devices.specs.Devices.{device}
 use Rattle.snap_devices.specs.Forms.{block_filed, more_filed}
 use Rattle.snap_devices.specs.Limits.{end_of_device}
 use Rattle.snap_devices.specs.Nets.{net}
-<<<<<<< 8bde38ab
 use Rattle.snap_devices.specs.Vsocks.{vsock}
-=======
->>>>>>> m
 use Rattle.snap_devices.proofs.Forms.{stands}
 
 pub record Written (b : QueueRounds BlockKind) (old new : List ℕ) : Type 0 where
@@ -84,7 +78,6 @@ balloon_put b old mid new fits put end = record {
       end ∙ balloon.same b mid ∙ ap (λ (x : List ℕ). x ++ balloon.bytes b) put ∙ append_assoc old (2 ∷ []) (balloon.bytes b);
 }
 
-<<<<<<< 8bde38ab
 vsock_put : (v : QueueRounds VsockKind) (old mid new : List ℕ) → vsock.Fits v → mid ≡ byte.puts 3 old
     → new ≡ vsock.puts v mid → DeviceWritten (kept.Vsock v) old new
 unfolding device byte
@@ -93,8 +86,6 @@ vsock_put v old mid new fits put end = record {
   bytes = end ∙ vsock.same v mid ∙ ap (λ (x : List ℕ). x ++ vsock.bytes v) put ∙ append_assoc old (3 ∷ []) (vsock.bytes v);
 }
 
-=======
->>>>>>> m
 pub block_device : (d : Device) (b : QueueRounds BlockKind) (old mid new : List ℕ) → d ≡ kept.Block b → block.Fits b
     → mid ≡ byte.puts 1 old → new ≡ mid ++ block.bytes b → DeviceWritten d old new
 block_device d b old mid new is fits put end =
@@ -109,11 +100,8 @@ pub balloon_device : (d : Device) (b : QueueRounds balloon_work.Kept) (old mid n
     → mid ≡ byte.puts 2 old → new ≡ balloon.puts b mid → DeviceWritten d old new
 balloon_device d b old mid new is fits put end =
     subst (λ (it : Device). DeviceWritten it old new) (sym is) (balloon_put b old mid new fits put end)
-<<<<<<< 8bde38ab
 
 pub vsock_device : (d : Device) (v : QueueRounds VsockKind) (old mid new : List ℕ) → d ≡ kept.Vsock v → vsock.Fits v
     → mid ≡ byte.puts 3 old → new ≡ vsock.puts v mid → DeviceWritten d old new
 vsock_device d v old mid new is fits put end =
     subst (λ (it : Device). DeviceWritten it old new) (sym is) (vsock_put v old mid new fits put end)
-=======
->>>>>>> m

@@ -11,12 +11,9 @@ use Rattle.block_device.specs.declared.kind.BlockKind.{BlockKind}
 use Rattle.block_device.specs.declared.work.BlockStage.TheVariants as block_at
 use Rattle.net_device.specs.declared.kind.Stage.TheVariants as net_at
 use Rattle.net_device.specs.Work as net_work
-<<<<<<< 8bde38ab
 use Rattle.vsock_device.specs.declared.kind.Stage.TheVariants as vsock_at
 use Rattle.vsock_device.specs.declared.kind.VsockKind.{VsockKind}
 use Rattle.vsock_device.specs.Data.{new_data}
-=======
->>>>>>> m
 use Rattle.balloon_device.specs.declared.kind.Stage.TheVariants as balloon_at
 use Rattle.balloon_device.specs.Statistics.{no_statistics}
 use Rattle.balloon_device.specs.Work as balloon_work
@@ -25,20 +22,14 @@ use Rattle.guest_devices.specs.declared.device.Device.TheVariants as kept
 use Rattle.snap_devices.specs.Balloons.{balloon}
 use Rattle.snap_devices.specs.Blocks.{block}
 use Rattle.snap_devices.specs.Nets.{net}
-<<<<<<< 8bde38ab
 use Rattle.snap_devices.specs.Vsocks.{vsock}
-=======
->>>>>>> m
 
 -- its kind, as a byte: that of its port (VIRTIO 1.2, 5: `Ports.kind_code`)
 abbrev pub device_code : Device → ℕ
 device_code (kept.Net n) = 0
 device_code (kept.Block b) = 1
 device_code (kept.Balloon b) = 2
-<<<<<<< 8bde38ab
 device_code (kept.Vsock v) = 3
-=======
->>>>>>> m
 
 -- of another device it is one that has done nothing
 abbrev pub block_of : Device → QueueRounds BlockKind
@@ -77,7 +68,6 @@ balloon_of _ = record {
   };
   phase = Between;
 }
-<<<<<<< 8bde38ab
 
 abbrev pub vsock_of : Device → QueueRounds VsockKind
 vsock_of (kept.Vsock v) = v
@@ -86,31 +76,21 @@ vsock_of _ = record {
   kind = record { own = new_data 0; stage = vsock_at.Rest };
   phase = Between;
 }
-=======
->>>>>>> m
 
 -- and behind it what is kept of it
 abbrev pub devices : ℕ → Listing Device
 devices zero = standing_list kept.Net net_of (whole net) (λ _ _. refl)
 devices (suc zero) = standing_list kept.Block block_of block (λ _ _. refl)
 devices (suc (suc zero)) = standing_list kept.Balloon balloon_of (whole balloon) (λ _ _. refl)
-<<<<<<< 8bde38ab
 devices (suc (suc (suc zero))) = standing_list kept.Vsock vsock_of (whole vsock) (λ _ _. refl)
 devices (suc (suc (suc (suc n)))) = no_list
-=======
-devices (suc (suc (suc n))) = no_list
->>>>>>> m
 
 pub device_code-is : (code : ℕ) (d : Device) → (devices code).Fits d → code ≡ device_code d
 device_code-is zero d fits = sym (ap device_code fits.0)
 device_code-is (suc zero) d fits = sym (ap device_code fits.0)
 device_code-is (suc (suc zero)) d fits = sym (ap device_code fits.0)
-<<<<<<< 8bde38ab
 device_code-is (suc (suc (suc zero))) d fits = sym (ap device_code fits.0)
 device_code-is (suc (suc (suc (suc n)))) d fits = absurd fits
-=======
-device_code-is (suc (suc (suc n))) d fits = absurd fits
->>>>>>> m
 
 unfoldable pub device : Listing Device
 device = chosen_list byte devices device_code device_code-is

@@ -10,8 +10,5 @@ pub mod Rounds
 pub mod Places
 pub mod Balloons
 pub mod Nets
-<<<<<<< 8bde38ab
 pub mod Vsocks
-=======
->>>>>>> m
 pub mod Devices

@@ -1,23 +1,14 @@
 // A device.
-<<<<<<< 8bde38ab
 ghost use Rattle.std.specs.Prelude.{◌≡◌, ◌++◌, true, IfOk, OnOk};
 ghost use Rattle.file_format.specs.Ends.{TakesAll};
 ghost use Rattle.guest_devices.specs.Kept.{is_saved};
-=======
-ghost use Rattle.std.specs.Prelude.{◌≡◌, ◌++◌, OnOk};
-ghost use Rattle.file_format.specs.Ends.{TakesAll};
->>>>>>> m
 ghost use Rattle.snap_devices.specs.Devices.{device};
 
 use crate::balloon::{read_balloon, write_balloon};
 use crate::block::{read_block, write_block};
 use crate::net::{read_net, write_net};
-<<<<<<< 8bde38ab
 use crate::saved::SavedDevice;
 use crate::vsock::{read_vsock, write_vsock};
-=======
-use crate::saved::Saved;
->>>>>>> m
 use file_format::{Input, ReadError, Stored, Whole};
 use guest_devices::Device;
 use std::alloc::{AllocError, Global};
@@ -40,27 +31,18 @@ fn write_device(it: &Device, out: &mut Vec<u8>) -> Result<(), AllocError>
             2u8.write(out)?;
             write_balloon(balloon, out)?;
         }
-<<<<<<< 8bde38ab
         Device::Vsock(vsock) => {
             3u8.write(out)?;
             write_vsock(vsock, out)?;
         }
-=======
->>>>>>> m
     }
     Ok(())
 }
 
-<<<<<<< 8bde38ab
 #[tactic(auto, using(crate::proofs::Reading::kind_bad, crate::proofs::Reading::block_is, crate::proofs::Reading::block_none, crate::proofs::Reading::net_is, crate::proofs::Reading::net_none, crate::proofs::Reading::balloon_is, crate::proofs::Reading::balloon_none, crate::proofs::Reading::vsock_is, crate::proofs::Reading::vsock_none, crate::proofs::Reading::other_none,))]
 fn read_device(alloc: Global, bytes: &[u8]) -> Result<Device, ReadError>
     ensures device { TakesAll device bytes.now result }
     ensures saved { IfOk result (λ it. is_saved it ≡ true) }
-=======
-#[tactic(auto, using(crate::proofs::Reading::kind_bad, crate::proofs::Reading::block_is, crate::proofs::Reading::block_none, crate::proofs::Reading::net_is, crate::proofs::Reading::net_none, crate::proofs::Reading::balloon_is, crate::proofs::Reading::balloon_none, crate::proofs::Reading::other_none,))]
-fn read_device(alloc: Global, bytes: &[u8]) -> Result<Device, ReadError>
-    ensures { TakesAll device bytes.now result }
->>>>>>> m
 {
     let mut input = Input::new(bytes);
     match u8::read(alloc, &mut input) {
@@ -76,19 +58,15 @@ fn read_device(alloc: Global, bytes: &[u8]) -> Result<Device, ReadError>
             Ok(balloon) => Ok(Device::Balloon(balloon)),
             Err(error) => Err(error),
         },
-<<<<<<< 8bde38ab
         Ok(3) => match read_vsock(alloc, &mut input) {
             Ok(vsock) => Ok(Device::Vsock(vsock)),
             Err(error) => Err(error),
         },
-=======
->>>>>>> m
         Ok(_) => Err(ReadError::Bad),
         Err(error) => Err(error),
     }
 }
 
-<<<<<<< 8bde38ab
 impl Whole for SavedDevice {
     ghost listing = { device };
 
@@ -100,19 +78,6 @@ impl Whole for SavedDevice {
     fn read_all(alloc: Global, bytes: &[u8]) -> Result<SavedDevice, ReadError> {
         match read_device(alloc, bytes) {
             Ok(device) => Ok(SavedDevice::new(device)),
-=======
-impl Whole for Saved<Device> {
-    ghost listing = { device };
-
-    fn write_all(&self, out: &mut Vec<u8>) -> Result<(), AllocError> {
-        write_device(&self.value, out)?;
-        Ok(())
-    }
-
-    fn read_all(alloc: Global, bytes: &[u8]) -> Result<Saved<Device>, ReadError> {
-        match read_device(alloc, bytes) {
-            Ok(value) => Ok(Saved { value }),
->>>>>>> m
             Err(error) => Err(error),
         }
     }

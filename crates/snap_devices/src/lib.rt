@@ -1,15 +1,9 @@
 //! Ports and devices as bytes: how a state file has each of them, one encoding for each state.
 //!
 //! `specs/` has the formats: `Ports` of a port, `Devices` of a device by its kind, and under it `Blocks`, `Phases`,
-<<<<<<< 8bde38ab
 //! `Serving`, `Queues` and `Limits` of a block device, `Nets` of a network device, `Vsocks` of a vsock device and `Balloons` of
 //! a balloon, each over `Rounds` and `Places`. `Saved<Port>` and
 //! `SavedDevice` are written and read so (`Stored`, and `Whole` of a device): what is read is the one port or device that
-=======
-//! `Serving`, `Queues` and `Limits` of a block device, `Nets` of a network device and `Balloons` of a balloon, each over `Rounds` and
-//! `Places`. `Saved<Port>` and
-//! `Saved<Device>` are written and read so (`Stored`, and `Whole` of a device): what is read is the one port or device that
->>>>>>> m
 //! bytes at a front are, exactly where they are the encoding of a state that it may be in. What this takes of memory is no
 //! more than a few times the bytes that are there.
 //!
@@ -22,11 +16,7 @@
 //! the configuration. A queue, 33 bytes: QueueDesc, QueueDriver and QueueDevice (8 each), QueueNum and QueueReady (4
 //! each), and the flag that it was kicked.
 //!
-<<<<<<< 8bde38ab
 //! A device: its kind (1 byte: 0 net, 1 block, 2 balloon, 3 vsock), and what is kept of it. A block device:
-=======
-//! A device: its kind (1 byte: 0 net, 1 block, 2 balloon), and what is kept of it. A block device:
->>>>>>> m
 //!
 //! - its data, 67 bytes: the size of the disk in sectors (8); the queue, 30 bytes: its three tables (8 each), its size
 //!   (2) and the guest's pages (4); the drive's id (20); the number of the next chain and how many were given back (2
@@ -55,11 +45,7 @@
 //!   moment of the newest request that passed (8). A chain that waits: its queue, 30 bytes; its head (2); the list of the parts that
 //!   are still needed; the list of the parts that are still read; the list of the bytes that were read.
 //!
-<<<<<<< 8bde38ab
 //! A network device, a vsock device or a balloon begins with these:
-=======
-//! A network device or a balloon begins with these:
->>>>>>> m
 //!
 //! - its rounds: the guest's pages (4); the number of its port (1); what is due (1: 0 a look, 1 the question to its host, which
 //!   a balloon never asks, 2 a queue, and behind a 2 the queue's number (1), 3 a wait); the flag that the round gave a chain
@@ -67,11 +53,7 @@
 //!   the flag that it was kicked; its registers, an option of 30 bytes; and the chain that waits, an option;
 //! - where it is, a byte and what follows it: 0 between two groups; 1 its host answered, which is never so of a balloon; 2 a
 //!   chain is walked: the queue's number (1) and the walk; 3 a chain is read before it may be served, which is never so of these
-<<<<<<< 8bde38ab
 //!   three, and 4 it is served: the chain in hand; 5 it is given back: how many bytes were written (4), how far (1), and the
-=======
-//!   two, and 4 it is served: the chain in hand; 5 it is given back: how many bytes were written (4), how far (1), and the
->>>>>>> m
 //!   chain in hand; 6 a queue is broken: its number (1), and then 0 the port, 1 the line is told (1). A chain in hand, 33 bytes:
 //!   its queue's number (1), that queue as it was when the chain was taken (30), and the chain's head (2).
 //!
@@ -86,7 +68,6 @@
 //!   list of its bytes, at most 64, and then as in 3; 5 the frame that was sent is ended;
 //! - the frame of 1 and 2 behind its header, as far as it came, a list of at most 1,526 bytes.
 //!
-<<<<<<< 8bde38ab
 //! A vsock device, which a file has without its connections, and so without bytes of the host for the guest:
 //!
 //! - the guest's CID (8); the next port at the host (4); the answer that waits for the guest, an option; the chain in hand; and the
@@ -105,8 +86,6 @@
 //!   number (4), the list of its bytes, at most 64, and that of the parts behind them; 8 a piece is read: the number (4), and the
 //!   list of the parts.
 //!
-=======
->>>>>>> m
 //! And a balloon:
 //!
 //! - how many seconds there are between two chains of statistics (2); the guest time at which one was let go on last (8); what
@@ -134,8 +113,4 @@ mod saved;
 mod vsock;
 
 pub use law::port_size;
-<<<<<<< 8bde38ab
 pub use saved::{Saved, SavedDevice};
-=======
-pub use saved::Saved;
->>>>>>> m

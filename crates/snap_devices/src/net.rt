@@ -38,11 +38,7 @@ fn read_text(alloc: Global, input: &mut Input) -> Result<Text, ReadError>
 }
 
 #[tactic(auto, unfolding(crate::specs::Nets::piece, file_format::specs::Kinds::byte_list))]
-<<<<<<< 8bde38ab
 pub(crate) fn write_piece(bytes: &[u8], out: &mut Vec<u8>) -> Result<(), AllocError>
-=======
-fn write_piece(bytes: &[u8], out: &mut Vec<u8>) -> Result<(), AllocError>
->>>>>>> m
     requires { length bytes.now ≤ 64 }
     ensures fits { OnOk result (piece.Fits bytes.now) }
     ensures bytes { OnOk result (out.new.items ≡ piece.puts bytes.now out.old.items) }
@@ -53,11 +49,7 @@ fn write_piece(bytes: &[u8], out: &mut Vec<u8>) -> Result<(), AllocError>
 }
 
 #[tactic(auto, unfolding(crate::specs::Nets::piece))]
-<<<<<<< 8bde38ab
 pub(crate) fn read_piece(alloc: Global, input: &mut Input) -> Result<Piece, ReadError>
-=======
-fn read_piece(alloc: Global, input: &mut Input) -> Result<Piece, ReadError>
->>>>>>> m
     ensures { Takes piece input.old input.new result }
 {
     let bytes: ByteList = Stored::read(alloc, input)?;

@@ -8,18 +8,11 @@ use Rattle.std.proofs.lemmas.List.{append-nil, drop_at, length-drop, length-take
 use Rattle.refusals.specs.declared.refusal.Refusal.{Refusal}
 use Rattle.refusals.specs.declared.refusal.Refusal.TheVariants as refusal
 use Rattle.file_format.specs.Format.{IsBytes}
-<<<<<<< 8bde38ab
 use Rattle.file_format.specs.Kinds.{raw, times}
-=======
-use Rattle.file_format.specs.Kinds.{fixed, number32, raw, times}
-use Rattle.file_format.specs.Laws.{all_same}
-use Rattle.file_format.specs.Readers.{put_all}
->>>>>>> m
 use Rattle.file_format.specs.Starts.{is_closed, is_other}
 use Rattle.file_format.specs.Versions.{version_of}
 use Rattle.file_format.specs.declared.version.Version.{Version}
 use Rattle.snap_diff.specs.declared.header.DiffHeader.{DiffHeader}
-<<<<<<< 8bde38ab
 use Rattle.snap_diff.specs.declared.header.DiffNames.{DiffNames}
 use Rattle.snap_diff.specs.declared.run.Run.{Run}
 use Rattle.snap_diff.specs.Copies.{DiffCopy, IsDiff}
@@ -27,12 +20,6 @@ use Rattle.snap_diff.specs.Headers.{are_names, behind_gate, header, magic, names
 use Rattle.snap_diff.specs.Runs.{are_runs, stored_in}
 use Rattle.snap_diff.specs.Diffs.{Begins, DiffParts, IsDiffFile, IsTable, are_stored, copy_of, entry, entry_size, is_table, is_valid, parts, size_behind, table_bytes, table_size}
 use Rattle.snap_diff.specs.Found.{diff_found, header_read, pages_read, rest_read, table_read}
-=======
-use Rattle.snap_diff.specs.Copies.{DiffCopy, IsDiff, rises}
-use Rattle.snap_diff.specs.Headers.{behind_gate, copy_with, header, header_of, is_header, magic}
-use Rattle.snap_diff.specs.Diffs.{Begins, IsDiffFile, IsTable, diff, diff_in, table_bytes}
-use Rattle.snap_diff.specs.Found.{diff_found, header_read, rest_read, table_read}
->>>>>>> m
 use Rattle.snap_diff.proofs.Fronts as fronts
 use Rattle.snap_diff.proofs.Tables.{IsFrom, bytes_behind, bytes_front, numbers_rise, runs_of_bytes, size_of_bytes, size_of_table, table_only, table_reads}
 
@@ -294,34 +281,3 @@ found_good given d bytes is =
     let opened = no_refusal (is_closed 64 (take 64 given)) refusal.GateClosed (cond (is_other (magic (version_of (take 64 given))) (take 64 given)) (Err refusal.WrongMagic) rest) d is in
     let known = no_refusal (is_other (magic (version_of (take 64 given))) (take 64 given)) refusal.WrongMagic rest d opened.1 in
     header_found given d (header.reads (take 64 given)) bytes refl known.1
-<<<<<<< 8bde38ab
-=======
-
--- ---- the start of a file
-
--- what was written behind an open gate is the header
-pub gated : (h : DiffHeader) → behind_gate.Fits h → header.Fits h
-unfolding header behind_gate fixed
-gated h fits = (refl, fits)
-
-written_is : (h : DiffHeader) (behind : List ℕ) → behind ≡ behind_gate.puts h [] → 1 ∷ behind ≡ header.bytes h
-unfolding header behind_gate fixed
-written_is h behind written = ap (λ (l : List ℕ). 1 ∷ l) (written ∙ behind_gate.same h [])
-
-pub start_is : (h : DiffHeader) (numbers middle start : List ℕ) → middle ≡ behind_gate.puts h [] → start ≡ put_all number32.puts numbers middle
-    → 1 ∷ start ≡ header.bytes h ++ table_bytes numbers
-start_is h numbers middle start first second =
-    ap (λ (l : List ℕ). 1 ∷ l) (second ∙ all_same number32 numbers middle)
-    ∙ ap (λ (l : List ℕ). l ++ table_bytes numbers) (written_is h middle first)
-
-pub start_size : (h : DiffHeader) (numbers start : List ℕ) → length numbers ≡ h.count → 1 ∷ start ≡ header.bytes h ++ table_bytes numbers → length start ≡ 63 + 4 * h.count
-start_size h numbers start count is =
-    omega (arith, ap length is, length-append (header.bytes h) (table_bytes numbers), fronts.length-header h, size_of_table numbers, count)
-
-pub start_then : (h : DiffHeader) (numbers file pages : List ℕ) → header.Fits h → IsTrue (is_header h) → AllByRecursion number32.Fits numbers
-    → length numbers ≡ h.count → rises h.pages 0 numbers ≡ true → file ≡ header.bytes h ++ table_bytes numbers → length pages ≡ 4096 * h.count
-    → IsDiffFile (file ++ pages) (copy_with h (numbers, pages))
-start_then h numbers file pages fits valid fit count rise is size =
-    made (file ++ pages) h numbers pages fits valid fit count size rise
-    (ap (λ (l : List ℕ). l ++ pages) is ∙ append_assoc (header.bytes h) (table_bytes numbers) pages)
->>>>>>> m

@@ -60,15 +60,6 @@ behind_gate = chosen_by front behind_front front_of front_is
 unfoldable pub header : Format DiffHeader
 header = made_of (λ h. (tt, h)) (λ (_, h). h) (λ _. refl) (λ _. refl) (fixed (1 ∷ []) & behind_gate)
 
--- the same behind the open gate
-unfoldable pub behind_gate : Format DiffHeader
-behind_gate =
-    made_of (λ h. (tt, (h.pages, (h.parent, (h.identity, (h.count, tt))))))
-    (λ (_, (pages, (parent, (identity, (count, _))))).
-    record { pages = pages; parent = parent; identity = identity; count = count })
-    (λ _. refl) (λ _. refl)
-    (fixed (magic One) & number32 & identity & identity & number32 & zeros 12)
-
 -- two snapshots that have numbers, and are not one
 abbrev pub are_names : DiffNames → Bool
 are_names n = is_numbered n.parent && is_numbered n.identity && not (is_same n.parent n.identity)

@@ -1,22 +1,12 @@
 // A header.
-<<<<<<< 8bde38ab
 ghost use Rattle.std.specs.Prelude.{◌≡◌, ◌≤◌, ◌+◌, ◌*◌, ◌^◌, ◌∷◌, ◌++◌, List, ℕ, IsTrue, IfOk, OnOk, length};
 ghost use Rattle.file_format.specs.Reading.{Takes};
-=======
-ghost use Rattle.std.specs.Prelude.{◌≡◌, ◌+◌, ◌*◌, ◌∷◌, ◌++◌, List, ℕ, IsTrue, IfOk, OnOk, length};
->>>>>>> m
 ghost use Rattle.file_format.specs.Starts.{Decodes};
 ghost use Rattle.file_format.specs.Versions.{version_of};
 ghost use Rattle.file_format.specs.declared.version.Version.TheVariants.{Two};
 ghost use Rattle.guest_memory.specs.Ram.{page_size};
-<<<<<<< 8bde38ab
 ghost use Rattle.snap_diff.specs.Diffs.{Begins, Found, IsDiffFile, are_stored, copy_of, is_table, size_behind, table_bytes, table_size};
 ghost use Rattle.snap_diff.specs.Headers.{are_names, behind_gate, counts, header, magic, names};
-=======
-ghost use Rattle.snap_diff.specs.Copies.{rises};
-ghost use Rattle.snap_diff.specs.Diffs.{Begins, Found, IsDiffFile, table_bytes};
-ghost use Rattle.snap_diff.specs.Headers.{behind_gate, copy_with, header, is_header, magic};
->>>>>>> m
 
 use crate::run::Run;
 use file_format::{
@@ -27,17 +17,10 @@ use guest_memory::PAGE_SIZE;
 use std::alloc::{AllocError, Global};
 use vm_types::Identity;
 
-<<<<<<< 8bde38ab
 /// "RVFCDIF".
 const KIND: [u8; 7] = [82, 86, 70, 67, 68, 73, 70];
 
 /// Which two snapshots a diff is between, and how many pages their memory has.
-=======
-/// "RVFCDIF", and version 1.
-const MAGIC: [u8; 11] = [82, 86, 70, 67, 68, 73, 70, 1, 0, 0, 0];
-
-/// The header of a diff file.
->>>>>>> m
 #[derive(Clone, Copy, Drop)]
 pub struct DiffNames {
     /// How many pages of 4,096 bytes the memory has.
@@ -48,7 +31,6 @@ pub struct DiffNames {
     pub identity: Identity,
 }
 
-<<<<<<< 8bde38ab
 /// The header of a diff file.
 #[derive(Clone, Copy, Drop)]
 pub struct DiffHeader {
@@ -68,15 +50,6 @@ impl Stored for DiffNames {
         self.pages.write(out)?;
         self.parent.write(out)?;
         self.identity.write(out)?;
-=======
-#[tactic(auto, unfolding(crate::specs::Headers::header, crate::specs::Headers::behind_gate))]
-impl Stored for DiffHeader {
-    ghost format = { header };
-
-    fn write(&self, out: &mut Vec<u8>) -> Result<(), AllocError> {
-        write_fixed(&[1], out)?;
-        self.write_behind_gate(out)?;
->>>>>>> m
         Ok(())
     }
 
@@ -182,7 +155,6 @@ impl DiffHeader {
     /// How many bytes it has.
     pub const SIZE: usize = 64;
 
-<<<<<<< 8bde38ab
     /// How many bytes of the file the table behind it has.
     pub fn table_size(&self) -> u64
         ensures size { result ≡ table_size self.now }
@@ -212,19 +184,6 @@ impl DiffHeader {
         self.version.write(out)?;
         self.names.write(out)?;
         write_counts(self.count, self.stored, out)?;
-=======
-    #[tactic(auto, unfolding(crate::specs::Headers::behind_gate))]
-    fn write_behind_gate(&self, out: &mut Vec<u8>) -> Result<(), AllocError>
-        ensures fits { OnOk result (behind_gate.Fits self.now) }
-        ensures bytes { OnOk result (out.new.items ≡ behind_gate.puts self.now out.old.items) }
-    {
-        write_fixed(&MAGIC, out)?;
-        self.pages.write(out)?;
-        self.parent.write(out)?;
-        self.identity.write(out)?;
-        self.count.write(out)?;
-        write_zeros(12, out)?;
->>>>>>> m
         Ok(())
     }
 
@@ -246,7 +205,6 @@ impl DiffHeader {
         }
     }
 
-<<<<<<< 8bde38ab
     /// The bytes of a file of version 2 between its gate and its pages: this header, and the table of these runs. The
     /// bytes of each stored page follow them.
     pub fn encode_behind_gate(&self, alloc: Global, runs: &[Run]) -> Result<Vec<u8>, AllocError>
@@ -264,22 +222,6 @@ impl DiffHeader {
         let mut start = Vec::new(alloc);
         self.write_behind_gate(&mut start)?;
         write_items(runs, &mut start)?;
-=======
-    /// The bytes of a file between its gate and its pages: this header, and the table of these page numbers. The bytes of
-    /// each page follow them.
-    pub fn encode_behind_gate(&self, alloc: Global, numbers: &[u32]) -> Result<Vec<u8>, AllocError>
-        requires count { length numbers.now ≡ self.now.count }
-        requires header { IsTrue (is_header self.now) }
-        requires rise { IsTrue (rises self.now.pages 0 numbers.now) }
-        ensures file { IfOk result (λ start. (pages : List ℕ) → length pages ≡ page_size * self.now.count →
-            IsDiffFile (1 ∷ start.items ++ pages) (copy_with self.now (numbers.now, pages))) }
-        ensures size { IfOk result (λ start. length start.items ≡ 63 + 4 * self.now.count) }
-        ensures bytes { IfOk result (λ start. 1 ∷ start.items ≡ header.bytes self.now ++ table_bytes numbers.now) }
-    {
-        let mut start = Vec::new(alloc);
-        self.write_behind_gate(&mut start)?;
-        write_items(numbers, &mut start)?;
->>>>>>> m
         Ok(start)
     }
 }

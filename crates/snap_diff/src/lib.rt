@@ -1,18 +1,10 @@
 //! A diff file: the pages of a memory that were written since another snapshot.
 //!
-<<<<<<< 8bde38ab
 //! `specs/Copies.antt` says what a diff is and what it makes of a copy of the memory, `Runs.antt`, `Headers.antt` and
 //! `Diffs.antt` which bytes its file is, in versions 1 and 2. `DiffHeader::read` answers the header that a file's bytes begin
 //! with, or the first refusal that fits, and `read_table` the runs of the table behind it;
 //! `DiffHeader::encode_behind_gate` gives both as bytes of version 2, but the gate, which is opened last. The stored pages
 //! behind the table are as the memory has them. `law` has what holds of every diff.
-=======
-//! `specs/Copies.antt` says what a diff is and what it makes of a copy of the memory, `Headers.antt` and `Diffs.antt`
-//! which bytes its file is. `DiffHeader::read` answers the header that a file's bytes begin with, or the first refusal
-//! that fits, and `check_table` judges the table behind it; `DiffHeader::encode_behind_gate` gives both as bytes, but
-//! the gate, which is opened last. The pages behind the table are as the memory has them. `law` has what holds of every
-//! diff.
->>>>>>> m
 #![tactic(auto)]
 
 mod header;

@@ -25,15 +25,9 @@ use Rattle.std.specs.Str.{bytes_eq}
 use Rattle.gate_file.specs.Reading.{start_of}
 use Rattle.flat_snapshot.specs.Found.{state_found, state_in, state_read}
 use Rattle.snap_state.proofs.Longest.{accepted_short}
-<<<<<<< 8bde38ab:crates/snap_restore/proofs/Starts.antt
 use Rattle.snap_restore.specs.declared.finding.FindError.{FindError}
 use Rattle.snap_restore.specs.declared.finding.FindError.TheVariants.{Refused, Fault, OutOfMemory}
 use Rattle.snap_restore.specs.Finding.{Answers, most_bytes, said_length, size_found, size_judged, size_of, state_of}
-=======
-use Rattle.snap_finding.specs.declared.finding.FindError.{FindError}
-use Rattle.snap_finding.specs.declared.finding.FindError.TheVariants.{Refused, Fault, OutOfMemory}
-use Rattle.snap_finding.specs.Finding.{Answers, most_bytes, said_length, size_found, size_judged, size_of, state_of}
->>>>>>> m:crates/snap_finding/proofs/Starts.antt
 
 take_less : (n m : ℕ) (xs : List ℕ) → n ≤ m → take n (take m xs) ≡ take n xs
 take_less zero m xs le = refl

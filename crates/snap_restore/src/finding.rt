@@ -17,10 +17,6 @@ use gate_file::{FileError, read_front, read_start};
 use guest_pages::PageSet;
 use refusals::Refusal;
 use snap_memory::MemHeader;
-<<<<<<< 8bde38ab:crates/snap_restore/src/finding.rt
-=======
-use snap_restore::load_pages;
->>>>>>> m:crates/snap_finding/src/finding.rt
 use snap_state::{STATE_HEADER, Saved, StateCopy};
 use std::alloc::Global;
 use vm_outside::Files;

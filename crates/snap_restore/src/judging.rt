@@ -6,19 +6,11 @@ ghost use Rattle.snap_restore.specs.Finding.{Answers, FindCause, nothing_of, ref
 ghost use Rattle.snap_restore.specs.Finding.{said_length, size_judged, size_of, state_of};
 
 use crate::finding::FindError;
-<<<<<<< 8bde38ab:crates/snap_restore/src/judging.rt
 use file_format::{DecodeError, is_closed, is_other, version_of};
 use guest_memory::PAGE_SIZE;
 use refusals::Refusal;
 use snap_memory::MemHeader;
 use snap_state::{STATE_HEADER, Saved, decode, state_magic};
-=======
-use file_format::{DecodeError, is_closed, is_other};
-use guest_memory::PAGE_SIZE;
-use refusals::Refusal;
-use snap_memory::MemHeader;
-use snap_state::{STATE_HEADER, STATE_MAGIC, Saved, decode};
->>>>>>> m:crates/snap_finding/src/judging.rt
 use std::alloc::Global;
 use vm_types::Identity;
 

@@ -1,14 +1,9 @@
 //! A snapshot is read: what a load finds under the names of its two files, over any files. That is the snapshot, or the first
 //! refusal that fits. No file is changed, and nothing is kept of what was refused.
 //!
-<<<<<<< 8bde38ab
 //! `find` looks at the state file first: it reads the header, and all of it only where that fits the file's size. Of the
 //! memory file it reads the header, and its pages once nothing refuses them, by `load_pages`, in blocks as a create writes
 //! them. `specs/Finding.antt` says what an answer is of what the flat machine finds.
-=======
-//! `read_start` (`gate_file`) gives the size of a file and the bytes of its header, and `read_front` (there too) as many as the
-//! header of the state file says; `load_pages` gives the pages behind the memory file's header, in blocks as a create writes them.
->>>>>>> m
 #![tactic(auto)]
 
 mod finding;

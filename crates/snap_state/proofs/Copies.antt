@@ -88,8 +88,8 @@ behind_magic One rest = refl
 behind_magic Two rest = refl
 
 long_magic : (v : Version) (rest : List ℕ) → length (1 ∷ magic v ++ rest) ≡ 12 + length rest
-long_magic One rest = refl
-long_magic Two rest = refl
+long_magic One rest = omega arith
+long_magic Two rest = omega arith
 
 same_magic : (v : Version) (rest : List ℕ) → is_other (magic v) (1 ∷ magic v ++ rest) ≡ false
 same_magic One rest = refl
@@ -115,7 +115,6 @@ encoded i c body behind written fits fits_len fits_identity valid numbered behin
     let whole : behind ≡ start ++ (number32.bytes (length body) ++ (identity.bytes i ++ body)) =
     behind-is ∙ ap (λ (x : List ℕ). x ++ body) puts ∙ regroup start (number32.bytes (length body)) (identity.bytes i) body in
     subst (λ (b : List ℕ). number32.Fits (length b) → behind ≡ start ++ (number32.bytes (length b) ++ (identity.bytes i ++ b)) → Encodes (1 ∷ behind) (record { identity = i; copy = c })) (sym body-is)
-<<<<<<< 8bde38ab
     (λ fits_len' whole'. subst (λ (l : List ℕ). Encodes (1 ∷ l) (record { identity = i; copy = c })) (sym whole')
     (record { saved = record { fits = (fits_len', (fits_identity, fits)); valid = valid; numbered = numbered }; bytes = refl })) fits_len whole
 
@@ -130,9 +129,6 @@ says_current i body behind is =
     let whole : behind ≡ start ++ (number32.bytes (length body) ++ (identity.bytes i ++ body)) =
     is ∙ ap (λ (x : List ℕ). x ++ body) puts ∙ regroup start (number32.bytes (length body)) (identity.bytes i) body in
     ap (λ (l : List ℕ). version_of (1 ∷ l)) whole
-=======
-    (λ fits_len' whole'. record { saved = record { fits = (fits_len', (fits_identity, fits)); valid = valid; numbered = numbered }; bytes = ap (λ (l : List ℕ). 1 ∷ l) whole' }) fits_len whole
->>>>>>> m
 
 -- ---- one copy
 

@@ -7,12 +7,8 @@ use Rattle.port_table.specs.declared.kind.DeviceKind.TheVariants.{Net, Block, Ba
 use Rattle.api_calls.specs.declared.balloon.Balloon as configured
 use Rattle.api_calls.specs.declared.call.Drive.{Drive}
 use Rattle.api_calls.specs.declared.interface.Interface.{Interface}
-<<<<<<< 8bde38ab
 use Rattle.api_calls.specs.declared.vsock.Vsock as vsock
 use Rattle.vm_config.specs.Devices.{Configured, balloon_devices, count_in, devices_in, of_drive, of_interface, vsock_count, vsock_devices}
-=======
-use Rattle.vm_config.specs.Devices.{Configured, balloon_devices, count_in, devices_in, of_drive, of_interface}
->>>>>>> m
 use Rattle.vm_config.specs.Drives.{in_order}
 use Rattle.vm_config.proofs.DeviceLemmas.{counted_in, length-ordered}
 use Rattle.std.proofs.lemmas.List.{length-map}
@@ -110,7 +106,6 @@ kind_behind of [] rest k = let e : 0 + k ≡ k = omega arith in rw e refl
 kind_behind of (a ∷ things) rest k =
     let e : length (a ∷ things) + k ≡ suc (length things + k) = omega arith in rw e (kind_behind of things rest k)
 
-<<<<<<< 8bde38ab
 -- one of it, and what is behind it
 vsock_front : (v : Option vsock.Vsock) (rest : List Configured) (k : ℕ) → k < vsock_count v
     → slice_get (map kind_configured (vsock_devices v ++ rest)) k ≡ slice_get (map kind_configured (vsock_devices v)) 0
@@ -135,16 +130,6 @@ module _ (drives : List Drive) (interfaces : List Interface) (one : Option vsock
   others = map of_interface interfaces ++ last
 
   pub drive_due : k < length drives → slice_get (map kind_configured (devices_in drives interfaces one balloon)) k ≡ Some Block
-=======
-module _ (drives : List Drive) (interfaces : List Interface) (balloon : Option configured.Balloon) (k : ℕ) where
-  abbrev due : List DeviceKind
-  due = map kind_configured (devices_in drives interfaces balloon)
-
-  abbrev others : List Configured
-  others = map of_interface interfaces ++ balloon_devices balloon
-
-  pub drive_due : k < length drives → slice_get (map kind_configured (devices_in drives interfaces balloon)) k ≡ Some Block
->>>>>>> m
   drive_due lt =
       let many = length-ordered drives in
       kind_front of_drive Block (λ d. refl) (in_order drives) others k (omega (arith, lt, many))
@@ -157,7 +142,6 @@ module _ (drives : List Drive) (interfaces : List Interface) (balloon : Option c
       ap (slice_get due) at ∙ kind_behind of_drive (in_order drives) others j
 
   pub interface_due : length drives ≤ k → k < length drives + length interfaces
-<<<<<<< 8bde38ab
       → slice_get (map kind_configured (devices_in drives interfaces one balloon)) k ≡ Some Net
   interface_due from lt =
       let j : ℕ = k - length drives in
@@ -180,38 +164,17 @@ module _ (drives : List Drive) (interfaces : List Interface) (balloon : Option c
       ≡ slice_get (map kind_configured (balloon_devices balloon)) 0
   balloon_due is =
       behind_interfaces (vsock_count one + 0) (omega (arith, is)) ∙ vsock_behind one (balloon_devices balloon) 0
-=======
-      → slice_get (map kind_configured (devices_in drives interfaces balloon)) k ≡ Some Net
-  interface_due from lt =
-      let j : ℕ = k - length drives in
-      behind_drives j (omega (arith, from)) ∙ kind_front of_interface Net (λ i. refl) interfaces (balloon_devices balloon) j (omega (arith, from, lt))
-
-  pub balloon_due : k ≡ length drives + length interfaces
-      → slice_get (map kind_configured (devices_in drives interfaces balloon)) k
-      ≡ slice_get (map kind_configured (balloon_devices balloon)) 0
-  balloon_due is =
-      behind_drives (length interfaces + 0) (omega (arith, is)) ∙ kind_behind of_interface interfaces (balloon_devices balloon) 0
->>>>>>> m
 
   one_balloon : (b : Option configured.Balloon) (j : ℕ) → slice_get (map kind_configured (balloon_devices b)) (suc j) ≡ None
   one_balloon None j = refl
   one_balloon (Some b) j = refl
 
-<<<<<<< 8bde38ab
   pub none_due : length drives + length interfaces + vsock_count one < k
       → slice_get (map kind_configured (devices_in drives interfaces one balloon)) k ≡ None
   none_due lt =
       let past : ℕ = k - suc (length drives + length interfaces + vsock_count one) in
       behind_interfaces (vsock_count one + suc past) (omega (arith, lt))
       ∙ vsock_behind one (balloon_devices balloon) (suc past) ∙ one_balloon balloon past
-=======
-  pub none_due : length drives + length interfaces < k
-      → slice_get (map kind_configured (devices_in drives interfaces balloon)) k ≡ None
-  none_due lt =
-      let past : ℕ = k - suc (length drives + length interfaces) in
-      behind_drives (length interfaces + suc past) (omega (arith, lt))
-      ∙ kind_behind of_interface interfaces (balloon_devices balloon) (suc past) ∙ one_balloon balloon past
->>>>>>> m
 
 -- ---- a copy
 
@@ -241,7 +204,6 @@ has_kinds c kinds same each =
 
 -- ---- how many there are
 
-<<<<<<< 8bde38ab
 many_kinds : (c : StateCopy) → length (kinds_of c.configuration) ≡ count_in c.configuration.drives c.configuration.interfaces c.configuration.vsock c.configuration.balloon
 many_kinds c =
     length-map (devices_in c.configuration.drives c.configuration.interfaces c.configuration.vsock c.configuration.balloon) kind_configured
@@ -251,15 +213,4 @@ pub many_ports : (c : StateCopy) → HasDevices c → length c.ports ≡ count_i
 many_ports c has = sym (length-map c.ports port_kind) ∙ ap length has.ports ∙ many_kinds c
 
 pub many_devices : (c : StateCopy) → HasDevices c → length c.devices ≡ count_in c.configuration.drives c.configuration.interfaces c.configuration.vsock c.configuration.balloon
-=======
-many_kinds : (c : StateCopy) → length (kinds_of c.configuration) ≡ count_in c.configuration.drives c.configuration.interfaces c.configuration.balloon
-many_kinds c =
-    length-map (devices_in c.configuration.drives c.configuration.interfaces c.configuration.balloon) kind_configured
-    ∙ counted_in c.configuration.drives c.configuration.interfaces c.configuration.balloon
-
-pub many_ports : (c : StateCopy) → HasDevices c → length c.ports ≡ count_in c.configuration.drives c.configuration.interfaces c.configuration.balloon
-many_ports c has = sym (length-map c.ports port_kind) ∙ ap length has.ports ∙ many_kinds c
-
-pub many_devices : (c : StateCopy) → HasDevices c → length c.devices ≡ count_in c.configuration.drives c.configuration.interfaces c.configuration.balloon
->>>>>>> m
 many_devices c has = sym (length-map c.devices kind_of) ∙ ap length has.devices ∙ many_kinds c

@@ -6,11 +6,7 @@ use Rattle.std.proofs.lemmas.List.Elements.{All-cons, All-nil}
 use Rattle.file_format.specs.Format.{IsBytes}
 use Rattle.file_format.specs.Identities.{identity}
 use Rattle.file_format.specs.Kinds.{byte_list, flag, list_of, number32, number64, ◌&◌}
-<<<<<<< 8bde38ab
 use Rattle.file_format.specs.declared.version.Version.{Version}
-=======
-use Rattle.file_format.specs.Versions.{Version}
->>>>>>> m
 use Rattle.file_format.specs.Ends.{listed}
 use Rattle.file_format.specs.Whole.{counted}
 use Rattle.guest_devices.specs.declared.device.Device.{Device}

@@ -10,13 +10,10 @@ use Rattle.api_calls.specs.declared.call.CacheType.{CacheType}
 use Rattle.api_calls.specs.declared.call.CacheType.TheVariants.{Unsafe, Writeback}
 use Rattle.api_calls.specs.declared.call.Drive.{Drive}
 use Rattle.api_calls.specs.declared.interface.Interface.{Interface}
-<<<<<<< 8bde38ab
 use Rattle.api_calls.specs.declared.mmds.MmdsConfig.{MmdsConfig}
 use Rattle.metadata_store.specs.declared.version.MetadataVersion.{MetadataVersion}
 use Rattle.metadata_store.specs.declared.version.MetadataVersion.TheVariants.{V1, V2}
 use Rattle.api_calls.specs.declared.vsock.Vsock.{Vsock}
-=======
->>>>>>> m
 use Rattle.api_calls.specs.Addresses.{are_pairs, is_mac, is_small_mac}
 use Rattle.api_calls.specs.Form.{holds, is_id, is_path, is_short_text}
 use Rattle.api_calls.specs.Limits.{is_limiter}
@@ -41,7 +38,6 @@ use Rattle.snap_state.specs.Copies as copies
 use Rattle.snap_state.specs.Drives as drives
 use Rattle.snap_state.specs.Interfaces as interfaces
 use Rattle.snap_state.specs.Limits as limits
-<<<<<<< 8bde38ab
 use Rattle.snap_state.specs.Mmds as mmds
 use Rattle.file_format.specs.declared.version.Version.{Version}
 use Rattle.file_format.specs.declared.version.Version.TheVariants.{One, Two}
@@ -51,16 +47,6 @@ use Rattle.snap_harts.specs.HartStates.{hart_state}
 use Rattle.snap_state.specs.Valid.{are_drives, are_interfaces, are_paths, are_sections, has_devices, has_machine, has_room, is_balloon, is_before, is_board, is_drive, is_interface, is_machine, is_mmds, is_reserved, is_rising, is_source, is_valid, is_vsock, rises_from}
 use Rattle.snap_state.proofs.HasDevices.{has_parts, many_devices, many_ports}
 use Rattle.snap_state.proofs.Texts.{address_short, args_short, id_short, ids_few, mmds_parts, path_short}
-=======
-use Rattle.file_format.specs.Versions.{Version}
-use Rattle.file_format.specs.Versions.Version.{One}
-use Rattle.snap_state.specs.Files as state
-use Rattle.snap_harts.specs.Harts.{hart}
-use Rattle.snap_harts.specs.HartStates.{hart_state}
-use Rattle.snap_state.specs.Valid.{are_drives, are_interfaces, are_paths, are_sections, has_devices, has_machine, has_room, is_balloon, is_before, is_board, is_drive, is_interface, is_machine, is_reserved, is_rising, is_source, is_valid, rises_from}
-use Rattle.snap_state.proofs.HasDevices.{has_parts, many_devices, many_ports}
-use Rattle.snap_state.proofs.Texts.{args_short, id_short, path_short}
->>>>>>> m
 use Rattle.snap_state.proofs.Sizes.{device_within, hart_state_within, hart_within, port_within}
 use Rattle.file_format.proofs.Within.{Within, any_within, within16, within32, within64, flag_within, zeros_within, constant_within, just_within, pair_within, made_within, passing_within, optional_most, optional_within, total, total-pass, list_within, each_within, counted_within, listed_within, bytes_within, text_within}
 
@@ -120,7 +106,6 @@ interface_within =
     made_within _ interface_most (λ a. omega arith)
     (pair_within text_within (pair_within text_within (pair_within (optional_within text text_within)
     (pair_within (any_within 52 limits.limiter limiter_within) (any_within 52 limits.limiter limiter_within)))))
-<<<<<<< 8bde38ab
 
 version_takes : (name : List ℕ) (first second : Bool) (left : List ℕ) (v : MetadataVersion) (rest : List ℕ)
     → bytes_eq name (codes "V1") ≡ first → bytes_eq name (codes "V2") ≡ second
@@ -161,12 +146,6 @@ configuration_most c =
     + (source_most c.boot_source
     + ((4 + total drive_most c.drives) + ((4 + total interface_most c.interfaces) + optional_most vsock_most c.vsock))))
     + (36 + optional_most mmds_most c.mmds)
-=======
-
-abbrev configuration_most : Configuration → ℕ
-configuration_most c =
-    (1 + (source_most c.boot_source + ((4 + total drive_most c.drives) + ((4 + total interface_most c.interfaces) + 1)))) + 37
->>>>>>> m
 
 fixed_within : (expected : List ℕ) → Within (fixed expected).reads (λ _. length expected)
 unfolding fixed
@@ -182,15 +161,9 @@ configuration_within =
     made_within _ configuration_most (λ a. omega arith)
     (pair_within
     (pair_within (fixed_within (1 ∷ [])) (pair_within source_within (pair_within (list_within drives.drive drive_within)
-<<<<<<< 8bde38ab
     (pair_within (list_within interfaces.interface interface_within) (optional_within configured.vsock vsock_within)))))
     (pair_within within64 (pair_within within64 (pair_within (zeros_within 1)
     (pair_within flag_within (pair_within (any_within 17 configured.balloon balloon_within) (optional_within mmds.mmds mmds_within)))))))
-=======
-    (pair_within (list_within interfaces.interface interface_within) (zeros_within 1)))))
-    (pair_within within64 (pair_within within64 (pair_within (zeros_within 1)
-    (pair_within flag_within (pair_within (any_within 17 configured.balloon balloon_within) (zeros_within 1)))))))
->>>>>>> m
 
 -- ---- the copy
 
@@ -217,23 +190,16 @@ unfolding copies.devices
 few_devices =
     passing_within _ (λ ds. 4 + 30644 * length ds) (λ v is. omega arith)
     (each_within 30644 (listed device) (listed_within 30640 device device_within))
-<<<<<<< 8bde38ab
 
 abbrev section_most : Section → ℕ
 section_most s = 4 + (4 + length s.bytes)
-=======
->>>>>>> m
 
 abbrev copy_most : StateCopy → ℕ
 copy_most c =
     (configuration_most c.configuration + 13)
     + (board_most c.board
     + ((4 + 328 * length c.harts)
-<<<<<<< 8bde38ab
     + ((4 + 153 * length c.ports) + ((4 + 30644 * length c.devices) + ((4 + 12 * length c.reservations) + (4 + total section_most c.sections))))))
-=======
-    + ((4 + 153 * length c.ports) + ((4 + 30644 * length c.devices) + (4 + 12 * length c.reservations)))))
->>>>>>> m
 
 section_within : Within copies.section.reads section_most
 unfolding copies.section
@@ -338,7 +304,6 @@ interfaces_short : (is : List Interface) → are_interfaces is ≡ true → tota
 interfaces_short is all =
     let parts = and_parts (list_all is_interface is) (are_apart id_of_interface is) all in
     total-pass interface_most is_interface 4295 interface_short is parts.0
-<<<<<<< 8bde38ab
 
 vsock_short : (v : Option Vsock) → holds is_vsock v ≡ true → optional_most vsock_most v ≤ 4108
 vsock_short None is = omega arith
@@ -355,8 +320,6 @@ mmds_short interfaces (Some m) is =
       total-pass (λ (id : List ℕ). 4 + length id) is_id 68 (λ id named. omega (arith, id_short id named)) m.network_interfaces few.1,
       (address_short m.ipv4_address own.place).0,
     )
-=======
->>>>>>> m
 
 board_short : (harts : ℕ) (b : SavedBoard) → harts ≤ 32 → is_board harts b ≡ true → board_most b ≤ 5014
 board_short harts b few is =
@@ -375,7 +338,6 @@ machine_small c is =
     let harts = and_parts _ (leb m.vcpu_count 32) least.0 in
     (leb-true _ _ harts.1, omega (arith, eqb-true _ _ both.1, leb-true _ _ most.1))
 
-<<<<<<< 8bde38ab
 devices_few : (c : StateCopy) → has_devices c ≡ true → has_room c.configuration.drives c.configuration.interfaces c.configuration.vsock c.configuration.balloon ≡ true
     → (length c.ports ≤ 16) × (length c.devices ≤ 16) × (length c.configuration.interfaces ≤ 16)
 devices_few c is room =
@@ -390,16 +352,6 @@ devices_few c is room =
 no_sections : (sections : List Section) → are_sections sections ≡ true → total section_most sections ≡ 0
 no_sections [] is = refl
 no_sections (s ∷ sections) is = absurd cc
-=======
-devices_few : (c : StateCopy) → has_devices c ≡ true → has_room c.configuration.drives c.configuration.interfaces c.configuration.balloon ≡ true
-    → (length c.ports ≤ 16) × (length c.devices ≤ 16) × (length c.configuration.interfaces ≤ 16)
-devices_few c is room =
-    let has = has_parts c is in
-    let few = leb-true (count_in c.configuration.drives c.configuration.interfaces c.configuration.balloon) 16 room in
-    let ports = many_ports c has in
-    let devices = many_devices c has in
-    (omega (arith, few, ports), omega (arith, few, devices), omega (arith, few))
->>>>>>> m
 
 -- ---- all of it
 
@@ -414,19 +366,12 @@ copy_short c is =
     let harts = and_parts _ _ devices.0 in
     let count = and_parts _ (eqb (length c.harts) harts_there) harts.0 in
     let boards = and_parts _ (is_board harts_there c.board) count.0 in
-<<<<<<< 8bde38ab
     let room = and_parts _ (has_room c.configuration.drives c.configuration.interfaces c.configuration.vsock c.configuration.balloon) boards.0 in
     let balloons = and_parts _ (holds (is_balloon c.configuration.machine.mem_size_mib) c.configuration.balloon) room.0 in
     let machine = and_parts _ (has_machine c c.configuration.machine) balloons.0 in
     let given = and_parts _ (holds (is_mmds c.configuration.interfaces) c.configuration.mmds) machine.0 in
     let sockets = and_parts _ (holds is_vsock c.configuration.vsock) given.0 in
     let linked = and_parts _ (are_interfaces c.configuration.interfaces) sockets.0 in
-=======
-    let room = and_parts _ (has_room c.configuration.drives c.configuration.interfaces c.configuration.balloon) boards.0 in
-    let balloons = and_parts _ (holds (is_balloon c.configuration.machine.mem_size_mib) c.configuration.balloon) room.0 in
-    let machine = and_parts _ (has_machine c c.configuration.machine) balloons.0 in
-    let linked = and_parts _ (are_interfaces c.configuration.interfaces) machine.0 in
->>>>>>> m
     let configured = and_parts (is_source c.configuration.boot_source) (are_drives c.configuration.drives) linked.0 in
     let small = machine_small c machine.1 in
     let few = devices_few c devices.1 room.1 in
@@ -439,11 +384,8 @@ copy_short c is =
       small.0,
       small.1,
       interfaces_short c.configuration.interfaces linked.1,
-<<<<<<< 8bde38ab
       vsock_short c.configuration.vsock sockets.1,
       mmds_short c.configuration.interfaces c.configuration.mmds given.1,
-=======
->>>>>>> m
       few.0,
       few.1,
       few.2,

@@ -11,27 +11,17 @@ use Rattle.guest_devices.specs.declared.device.Device.{Device}
 use Rattle.guest_devices.specs.Kept.{device_pages, device_port, is_kept}
 use Rattle.snap_state.specs.declared.copy.StateCopy.{StateCopy}
 use Rattle.snap_state.proofs.HasDevices.{has_parts, many_devices, many_ports}
-<<<<<<< 8bde38ab
 use Rattle.snap_state.specs.Valid.{are_devices, are_drives, are_interfaces, are_sections, has_devices, has_machine, has_room, is_balloon, is_board, is_device, is_hart, is_machine, is_mmds, is_reserved, is_rising, is_source, is_valid, is_vsock}
-=======
-use Rattle.snap_state.specs.Valid.{are_devices, are_drives, are_interfaces, are_sections, has_devices, has_machine, has_room, is_balloon, is_board, is_device, is_hart, is_machine, is_reserved, is_rising, is_source, is_valid}
->>>>>>> m
 
 pub record Rules (c : StateCopy) : Type 0 where
   pub source : is_source c.configuration.boot_source ≡ true
   pub drives : are_drives c.configuration.drives ≡ true
   pub interfaces : are_interfaces c.configuration.interfaces ≡ true
-<<<<<<< 8bde38ab
   pub vsock : holds is_vsock c.configuration.vsock ≡ true
   pub mmds : holds (is_mmds c.configuration.interfaces) c.configuration.mmds ≡ true
   pub machine : has_machine c c.configuration.machine ≡ true
   pub balloon : holds (is_balloon c.configuration.machine.mem_size_mib) c.configuration.balloon ≡ true
   pub room : has_room c.configuration.drives c.configuration.interfaces c.configuration.vsock c.configuration.balloon ≡ true
-=======
-  pub machine : has_machine c c.configuration.machine ≡ true
-  pub balloon : holds (is_balloon c.configuration.machine.mem_size_mib) c.configuration.balloon ≡ true
-  pub room : has_room c.configuration.drives c.configuration.interfaces c.configuration.balloon ≡ true
->>>>>>> m
   pub board : is_board c.configuration.machine.vcpu_count c.board ≡ true
   pub many : (length c.harts == c.configuration.machine.vcpu_count) ≡ true
   pub harts : list_all (is_hart c.pages) c.harts ≡ true
@@ -44,7 +34,6 @@ pub rules_of : (c : StateCopy) → is_valid c ≡ true → Rules c
 unfolding is_valid
 rules_of c valid =
     let m = c.configuration.machine in
-<<<<<<< 8bde38ab
     let p14 = and_parts _ (are_sections c.sections) valid in
     let p13 = and_parts _ (is_rising c.reservations) p14.0 in
     let p12 = and_parts _ (list_all (is_reserved c.pages m.vcpu_count) c.reservations) p13.0 in
@@ -58,25 +47,12 @@ rules_of c valid =
     let p5 = and_parts _ (has_machine c m) p6.0 in
     let p4 = and_parts _ (holds (is_mmds c.configuration.interfaces) c.configuration.mmds) p5.0 in
     let p3 = and_parts _ (holds is_vsock c.configuration.vsock) p4.0 in
-=======
-    let p12 = and_parts _ (are_sections c.sections) valid in
-    let p11 = and_parts _ (is_rising c.reservations) p12.0 in
-    let p10 = and_parts _ (list_all (is_reserved c.pages m.vcpu_count) c.reservations) p11.0 in
-    let p9 = and_parts _ (has_devices c) p10.0 in
-    let p8 = and_parts _ (list_all (is_hart c.pages) c.harts) p9.0 in
-    let p7 = and_parts _ (length c.harts == m.vcpu_count) p8.0 in
-    let p6 = and_parts _ (is_board m.vcpu_count c.board) p7.0 in
-    let p5 = and_parts _ (has_room c.configuration.drives c.configuration.interfaces c.configuration.balloon) p6.0 in
-    let p4 = and_parts _ (holds (is_balloon m.mem_size_mib) c.configuration.balloon) p5.0 in
-    let p3 = and_parts _ (has_machine c m) p4.0 in
->>>>>>> m
     let p2 = and_parts _ (are_interfaces c.configuration.interfaces) p3.0 in
     let p1 = and_parts (is_source c.configuration.boot_source) (are_drives c.configuration.drives) p2.0 in
     record {
       source = p1.0;
       drives = p1.1;
       interfaces = p2.1;
-<<<<<<< 8bde38ab
       vsock = p3.1;
       mmds = p4.1;
       machine = p5.1;
@@ -89,18 +65,6 @@ rules_of c valid =
       reservations = p12.1;
       rising = p13.1;
       sections = p14.1;
-=======
-      machine = p3.1;
-      balloon = p4.1;
-      room = p5.1;
-      board = p6.1;
-      many = p7.1;
-      harts = p8.1;
-      devices = p9.1;
-      reservations = p10.1;
-      rising = p11.1;
-      sections = p12.1;
->>>>>>> m
     }
 
 -- and they are all
@@ -111,11 +75,8 @@ rules_hold c r =
       r.source,
       r.drives,
       r.interfaces,
-<<<<<<< 8bde38ab
       r.vsock,
       r.mmds,
-=======
->>>>>>> m
       r.machine,
       r.balloon,
       r.room,
@@ -151,15 +112,9 @@ few_pages c r =
 -- ---- ports and devices
 
 pub record Attached (c : StateCopy) : Type 0 where
-<<<<<<< 8bde38ab
   pub ports : length c.ports ≡ count_in c.configuration.drives c.configuration.interfaces c.configuration.vsock c.configuration.balloon
   pub devices : length c.devices ≡ count_in c.configuration.drives c.configuration.interfaces c.configuration.vsock c.configuration.balloon
   pub few : count_in c.configuration.drives c.configuration.interfaces c.configuration.vsock c.configuration.balloon ≤ most_ports
-=======
-  pub ports : length c.ports ≡ count_in c.configuration.drives c.configuration.interfaces c.configuration.balloon
-  pub devices : length c.devices ≡ count_in c.configuration.drives c.configuration.interfaces c.configuration.balloon
-  pub few : count_in c.configuration.drives c.configuration.interfaces c.configuration.balloon ≤ most_ports
->>>>>>> m
   pub each : are_devices c.pages 0 c.devices ≡ true
 
 pub attached : (c : StateCopy) → Rules c → Attached c
@@ -168,11 +123,7 @@ attached c r =
     record {
       ports = many_ports c has;
       devices = many_devices c has;
-<<<<<<< 8bde38ab
       few = leb-true (count_in c.configuration.drives c.configuration.interfaces c.configuration.vsock c.configuration.balloon) most_ports r.room;
-=======
-      few = leb-true (count_in c.configuration.drives c.configuration.interfaces c.configuration.balloon) most_ports r.room;
->>>>>>> m
       each = has.each;
     }
 

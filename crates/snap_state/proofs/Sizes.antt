@@ -13,10 +13,7 @@ use Rattle.snap_devices.specs.Phases as phases
 use Rattle.snap_devices.specs.Blocks as blocks
 use Rattle.snap_devices.specs.Devices as devices
 use Rattle.snap_devices.specs.Ports as ports
-<<<<<<< 8bde38ab
 use Rattle.snap_devices.specs.Vsocks as vsocks
-=======
->>>>>>> m
 use Rattle.snap_harts.specs.HartStates as hart_states
 use Rattle.snap_harts.specs.Harts as harts
 use Rattle.file_format.proofs.Within.{Within, WithinList, chosen_list_within, ended_within, no_list_within, passing_list_within, standing_list_within, whole_within, wider_within}
@@ -182,11 +179,7 @@ block_within =
     standing_list_within _ 17227
     (passing_list_within _ 17227 (ended_within blocks.block_fields limits.end_of_device 10269 6958 fields_within more_within))
 
-<<<<<<< 8bde38ab
 -- ---- the rounds of a network device, a vsock device or a balloon, and where it is
-=======
--- ---- the rounds of a network device or a balloon, and where it is
->>>>>>> m
 
 queues_within : (code : ℕ) → Within (rounds.which_queues code).reads (λ _. 0)
 queues_within zero = just_within _ 0
@@ -316,7 +309,6 @@ balloon_within =
     (made_within _ (λ _. 27629) (λ a. omega arith)
     (pair_within rounds_within (pair_within device_place_within balloon_kind_within)))
 
-<<<<<<< 8bde38ab
 -- ---- a vsock device
 
 operations_within : (code : ℕ) → Within (vsocks.numbered code).reads (λ _. 0)
@@ -400,8 +392,6 @@ vsock_within =
     (made_within _ (λ _. 27556) (λ a. omega arith)
     (pair_within rounds_within (pair_within device_place_within (pair_within vsock_data_within vsock_stage_within))))
 
-=======
->>>>>>> m
 -- ---- a device of any kind
 
 devices_within : (code : ℕ) → WithinList (devices.devices code).reads 30639
@@ -411,13 +401,9 @@ devices_within (suc zero) =
     standing_list_within _ 30639 (wider_within 17227 30639 (omega arith) block_within)
 devices_within (suc (suc zero)) =
     standing_list_within _ 30639 (wider_within 27629 30639 (omega arith) (whole_within balloons.balloon 27629 balloon_within))
-<<<<<<< 8bde38ab
 devices_within (suc (suc (suc zero))) =
     standing_list_within _ 30639 (wider_within 27556 30639 (omega arith) (whole_within vsocks.vsock 27556 vsock_within))
 devices_within (suc (suc (suc (suc n)))) = no_list_within 30639
-=======
-devices_within (suc (suc (suc n))) = no_list_within 30639
->>>>>>> m
 
 pub device_within : WithinList devices.device.reads 30640
 unfolding devices.device

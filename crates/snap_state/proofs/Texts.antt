@@ -16,7 +16,6 @@ use Rattle.api_calls.specs.declared.call.CacheType.TheVariants.{Unsafe, Writebac
 use Rattle.api_calls.specs.declared.call.Drive.{Drive}
 use Rattle.api_calls.specs.declared.call.MachineConfig.{MachineConfig}
 use Rattle.api_calls.specs.declared.interface.Interface.{Interface}
-<<<<<<< 8bde38ab
 use Rattle.api_calls.specs.declared.vsock.Vsock.{Vsock}
 use Rattle.api_calls.specs.declared.limiter.BucketConfig.{BucketConfig}
 use Rattle.api_calls.specs.declared.limiter.Limiter.{Limiter}
@@ -26,19 +25,11 @@ use Rattle.metadata_store.specs.declared.version.MetadataVersion.TheVariants.{V1
 use Rattle.api_calls.specs.Addresses.{are_digits, are_pairs, is_mac, is_metadata_address, is_small_mac}
 use Rattle.api_calls.specs.Drives.{is_root}
 use Rattle.api_calls.specs.Form.{are_ids, has_path_bytes, holds, is_address, is_id, is_id_byte, is_path, is_short_text}
-=======
-use Rattle.api_calls.specs.declared.limiter.BucketConfig.{BucketConfig}
-use Rattle.api_calls.specs.declared.limiter.Limiter.{Limiter}
-use Rattle.api_calls.specs.Addresses.{are_digits, are_pairs, is_mac, is_small_mac}
-use Rattle.api_calls.specs.Drives.{is_root}
-use Rattle.api_calls.specs.Form.{has_path_bytes, holds, is_id, is_id_byte, is_path, is_short_text}
->>>>>>> m
 use Rattle.api_calls.specs.Limits.{is_bucket, is_limiter}
 use Rattle.guest_memory.specs.Reserved.{hart_limit}
 use Rattle.port_table.specs.Window.{most_ports}
 use Rattle.snap_state.specs.declared.configuration.BootSource.{BootSource}
 use Rattle.snap_state.specs.declared.configuration.Configuration.{Configuration}
-<<<<<<< 8bde38ab
 use Rattle.snap_state.specs.Configured.{balloon, boot_source, configuration, vsock}
 use Rattle.snap_state.specs.Drives.{cache, drive}
 use Rattle.snap_state.specs.Interfaces.{interface}
@@ -47,15 +38,6 @@ use Rattle.snap_state.specs.Mmds.{mmds, version}
 use Rattle.snap_state.specs.Valid.{are_drives, are_interfaces, are_paths, is_balloon, is_drive, is_interface, is_machine, is_mmds, is_source, is_vsock}
 use Rattle.vm_config.specs.Drives.{id_of_drive}
 use Rattle.vm_config.specs.Interfaces.{has_interface, id_of_interface}
-=======
-use Rattle.snap_state.specs.Configured.{balloon, boot_source, configuration}
-use Rattle.snap_state.specs.Drives.{cache, drive}
-use Rattle.snap_state.specs.Interfaces.{interface}
-use Rattle.snap_state.specs.Limits.{bucket, limiter}
-use Rattle.snap_state.specs.Valid.{are_drives, are_interfaces, are_paths, is_balloon, is_drive, is_interface, is_machine, is_source}
-use Rattle.vm_config.specs.Drives.{id_of_drive}
-use Rattle.vm_config.specs.Interfaces.{id_of_interface}
->>>>>>> m
 use Rattle.vm_config.specs.Named.{are_apart}
 
 -- ---- texts
@@ -286,7 +268,6 @@ machine_of m is =
     let few = and_parts (nat_le 1 m.vcpu_count) (nat_le m.vcpu_count hart_limit) some.0 in
     record { harts = leb-true _ _ few.1; mib = leb-true _ _ large.1 }
 
-<<<<<<< 8bde38ab
 vsock_fits : (v : Vsock) → is_vsock v ≡ true → vsock.Fits v
 unfolding vsock
 vsock_fits v is =
@@ -350,8 +331,6 @@ mmds_fit : (interfaces : List Interface) (o : Option MmdsConfig) → holds (is_m
 mmds_fit interfaces None is = fits_optional mmds None tt
 mmds_fit interfaces (Some m) is = fits_optional mmds (Some m) (mmds_fits interfaces m is)
 
-=======
->>>>>>> m
 balloon_fits : (mib : ℕ) (b : Balloon) → mib ≤ 1024 → is_balloon mib b ≡ true → balloon.Fits b
 unfolding balloon
 balloon_fits mib b few is =
@@ -371,17 +350,11 @@ unfolding fixed
 front_fits = refl
 
 pub configuration_fits : (c : Configuration) → is_source c.boot_source ≡ true → are_drives c.drives ≡ true
-<<<<<<< 8bde38ab
     → are_interfaces c.interfaces ≡ true → length c.interfaces ≤ most_ports → holds is_vsock c.vsock ≡ true
     → holds (is_mmds c.interfaces) c.mmds ≡ true → is_machine c.machine ≡ true → holds (is_balloon c.machine.mem_size_mib) c.balloon ≡ true
     → configuration.Fits c
 unfolding configuration
 configuration_fits c source drives interfaces links sockets given machine balloons =
-=======
-    → are_interfaces c.interfaces ≡ true → length c.interfaces ≤ most_ports → is_machine c.machine ≡ true → holds (is_balloon c.machine.mem_size_mib) c.balloon ≡ true → configuration.Fits c
-unfolding configuration
-configuration_fits c source drives interfaces links machine balloons =
->>>>>>> m
     let ds = drives_of c.drives drives in
     let few = ds.few in
     let m = machine_of c.machine machine in
@@ -393,11 +366,7 @@ configuration_fits c source drives interfaces links machine balloons =
           source_fits c.boot_source source,
           (
             fits_list drive c.drives (omega (arith, few)) (each_fits c.drives ds.each),
-<<<<<<< 8bde38ab
             (fits_list interface c.interfaces (omega (arith, links)) (links_fit c.interfaces (links_of c.interfaces interfaces)), vsocks_fit c.vsock sockets),
-=======
-            (fits_list interface c.interfaces (omega (arith, links)) (links_fit c.interfaces (links_of c.interfaces interfaces)), fits_zeros 1),
->>>>>>> m
           ),
         ),
       ),
@@ -409,11 +378,7 @@ configuration_fits c source drives interfaces links machine balloons =
             fits_zeros 1,
             (
               fits_flag c.machine.track_dirty_pages,
-<<<<<<< 8bde38ab
               (balloons_fit c.machine.mem_size_mib c.balloon mib balloons, mmds_fit c.interfaces c.mmds given),
-=======
-              (balloons_fit c.machine.mem_size_mib c.balloon mib balloons, fits_zeros 1),
->>>>>>> m
             ),
           ),
         ),

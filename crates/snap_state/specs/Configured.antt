@@ -4,15 +4,10 @@ use Rattle.std.specs.Prelude.{[], ◌∷◌, refl}
 use Rattle.file_format.specs.Format.{Format}
 use Rattle.file_format.specs.Kinds.{number64, flag, text, optional, list_of, fixed, zeros, ◌&◌, made_of}
 use Rattle.api_calls.specs.declared.balloon.Balloon.{Balloon}
-<<<<<<< 8bde38ab
 use Rattle.api_calls.specs.declared.vsock.Vsock.{Vsock}
 use Rattle.snap_state.specs.Drives.{drive}
 use Rattle.snap_state.specs.Interfaces.{interface}
 use Rattle.snap_state.specs.Mmds.{mmds}
-=======
-use Rattle.snap_state.specs.Drives.{drive}
-use Rattle.snap_state.specs.Interfaces.{interface}
->>>>>>> m
 use Rattle.snap_state.specs.declared.configuration.BootSource.{BootSource}
 use Rattle.snap_state.specs.declared.configuration.Configuration.{Configuration}
 
@@ -38,7 +33,6 @@ balloon =
     (λ _. refl) (λ _. refl)
     (number64 & flag & number64)
 
-<<<<<<< 8bde38ab
 -- the guest's CID, and the name of the host's socket
 unfoldable pub vsock : Format Vsock
 vsock =
@@ -48,30 +42,18 @@ vsock =
 
 -- The boot source, which is always there; the drives; the network interfaces; the vsock device, if there is one; the machine,
 -- whose smt, a zero, stands before track_dirty_pages; the balloon, if there is one; and how the guest is given metadata, if it is.
-=======
--- The boot source, which is always there; the drives; the network interfaces; no vsock, a zero; the machine,
--- whose smt, a zero, stands before track_dirty_pages; the balloon, if there is one; and no metadata service, a zero.
->>>>>>> m
 unfoldable pub configuration : Format Configuration
 configuration =
     made_of
     (λ c. (
-<<<<<<< 8bde38ab
       (tt, (c.boot_source, (c.drives, (c.interfaces, c.vsock)))),
       (c.machine.vcpu_count, (c.machine.mem_size_mib, (tt, (c.machine.track_dirty_pages, (c.balloon, c.mmds))))),
     ))
     (λ ((_, (boot_source, (drives, (interfaces, vsock)))), (vcpu_count, (mem_size_mib, (_, (track_dirty_pages, (balloon, mmds)))))).
-=======
-      (tt, (c.boot_source, (c.drives, (c.interfaces, tt)))),
-      (c.machine.vcpu_count, (c.machine.mem_size_mib, (tt, (c.machine.track_dirty_pages, (c.balloon, tt))))),
-    ))
-    (λ ((_, (boot_source, (drives, (interfaces, _)))), (vcpu_count, (mem_size_mib, (_, (track_dirty_pages, (balloon, _)))))).
->>>>>>> m
     record {
       boot_source = boot_source;
       drives = drives;
       interfaces = interfaces;
-<<<<<<< 8bde38ab
       vsock = vsock;
       machine = record { vcpu_count = vcpu_count; mem_size_mib = mem_size_mib; track_dirty_pages = track_dirty_pages };
       balloon = balloon;
@@ -81,13 +63,4 @@ configuration =
     (
     (fixed (1 ∷ []) & boot_source & list_of drive & list_of interface & optional vsock)
     & (number64 & number64 & zeros 1 & flag & optional balloon & optional mmds)
-=======
-      machine = record { vcpu_count = vcpu_count; mem_size_mib = mem_size_mib; track_dirty_pages = track_dirty_pages };
-      balloon = balloon;
-    })
-    (λ _. refl) (λ _. refl)
-    (
-    (fixed (1 ∷ []) & boot_source & list_of drive & list_of interface & zeros 1)
-    & (number64 & number64 & zeros 1 & flag & optional balloon & zeros 1)
->>>>>>> m
     )

@@ -1,23 +1,20 @@
 -- The body of a state file.
 use Rattle.std.specs.Prelude.{refl, nat_le, Bool, List, [], length}
 use Rattle.file_format.specs.Format.{Format}
-<<<<<<< 8bde38ab
 use Rattle.file_format.specs.Kinds.{number32, number64, flag, byte_list, list_of, passing, just, ◌&◌, made_of}
 use Rattle.file_format.specs.declared.version.Version.{Version}
 use Rattle.file_format.specs.declared.version.Version.TheVariants.{One, Two}
-=======
-use Rattle.file_format.specs.Kinds.{number32, number64, flag, list_of, passing, just, ◌&◌, made_of}
-use Rattle.file_format.specs.Versions.{Version}
-use Rattle.file_format.specs.Versions.Version.{One}
->>>>>>> m
 use Rattle.file_format.specs.Ends.{listed}
 use Rattle.file_format.specs.Whole.{counted}
+use Rattle.port_table.specs.declared.state.PortState.{PortState}
 use Rattle.port_table.specs.Window.{most_ports}
 use Rattle.guest_devices.specs.declared.device.Device.{Device}
 use Rattle.snap_devices.specs.Ports.{port}
 use Rattle.snap_devices.specs.Devices.{device}
 use Rattle.snap_state.specs.Configured.{configuration}
 use Rattle.snap_state.specs.Boards.{board}
+use Rattle.snap_state.specs.declared.board.SavedBoard.{SavedBoard}
+use Rattle.snap_harts.specs.declared.hart.SavedHart.{SavedHart}
 use Rattle.snap_harts.specs.Harts.{hart}
 use Rattle.snap_state.specs.declared.copy.Reservation.{Reservation}
 use Rattle.snap_state.specs.declared.copy.Section.{Section}
@@ -37,23 +34,28 @@ are_few ds = nat_le (length ds) most_ports
 
 unfoldable pub devices : Format (List Device)
 devices = passing are_few (list_of (listed device))
-<<<<<<< 8bde38ab
 
 -- what stands under a tag
 unfoldable pub section : Format Section
 section =
     made_of (λ s. (s.tag, s.bytes)) (λ (tag, bytes). record { tag = tag; bytes = bytes }) (λ _. refl) (λ _. refl)
     (number32 & byte_list)
-=======
->>>>>>> m
 
 -- version 1 has no place for sections
 unfoldable pub sections_in : Version → Format (List Section)
 sections_in One = just []
 sections_in Two = list_of section
 
--- The configuration, the number of pages, track_dirty_pages once more and guest time; the board and the harts; the ports
--- and the devices, each as a list of its bytes; the reservations; and the sections, as the version has them.
+-- Behind the harts stand the ports and the devices, each as a list of its bytes; the reservations; and the sections, as the
+-- version has them.
+abbrev pub behind_harts : Version → Format (List PortState × (List Device × (List Reservation × List Section)))
+behind_harts v = list_of (counted port) & devices & list_of reservation & sections_in v
+
+-- Behind guest time stand the board, the harts, and what stands behind those.
+abbrev pub behind_time : Version → Format (SavedBoard × (List SavedHart × (List PortState × (List Device × (List Reservation × List Section)))))
+behind_time v = board & list_of hart & behind_harts v
+
+-- The configuration, the number of pages, track_dirty_pages once more and guest time, and what stands behind that.
 unfoldable pub state_copy : Version → Format StateCopy
 state_copy v =
     made_of
@@ -75,4 +77,4 @@ state_copy v =
       sections = sections;
     })
     (λ _. refl) (λ _. refl)
-    ((configuration & number32 & flag & number64) & (board & list_of hart & list_of (counted port) & devices & list_of reservation & sections_in v))
+    ((configuration & number32 & flag & number64) & behind_time v)

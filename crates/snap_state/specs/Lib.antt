@@ -1,10 +1,7 @@
 pub mod Limits
 pub mod Drives
 pub mod Interfaces
-<<<<<<< 8bde38ab
 pub mod Mmds
-=======
->>>>>>> m
 pub mod Configured
 pub mod Boards
 pub mod Copies

@@ -6,7 +6,6 @@ use Rattle.api_calls.specs.declared.balloon.Balloon as balloon
 use Rattle.api_calls.specs.declared.call.Drive.{Drive}
 use Rattle.api_calls.specs.declared.call.MachineConfig.{MachineConfig}
 use Rattle.api_calls.specs.declared.interface.Interface.{Interface}
-<<<<<<< 8bde38ab
 use Rattle.api_calls.specs.declared.mmds.MmdsConfig.{MmdsConfig}
 use Rattle.api_calls.specs.declared.vsock.Vsock as vsock
 use Rattle.api_calls.specs.Addresses.{is_small_mac}
@@ -16,15 +15,6 @@ use Rattle.api_calls.specs.Limits.{is_limiter}
 use Rattle.vm_config.specs.Devices.{Configured, count_in, devices_in, of_balloon, of_drive, of_interface, of_vsock}
 use Rattle.vm_config.specs.Drives.{id_of_drive}
 use Rattle.vm_config.specs.Interfaces.{has_interface, id_of_interface}
-=======
-use Rattle.api_calls.specs.Addresses.{is_small_mac}
-use Rattle.api_calls.specs.Drives.{is_root}
-use Rattle.api_calls.specs.Form.{holds, is_id, is_path, is_short_text}
-use Rattle.api_calls.specs.Limits.{is_limiter}
-use Rattle.vm_config.specs.Devices.{Configured, count_in, devices_in, of_balloon, of_drive, of_interface}
-use Rattle.vm_config.specs.Drives.{id_of_drive}
-use Rattle.vm_config.specs.Interfaces.{id_of_interface}
->>>>>>> m
 use Rattle.vm_config.specs.Named.{are_apart}
 use Rattle.board_table.specs.Board.{ring_size}
 use Rattle.guest_memory.specs.Ram.{page_size, is_ram}
@@ -88,7 +78,6 @@ is_interface i =
 abbrev pub are_interfaces : List Interface → Bool
 are_interfaces interfaces = list_all is_interface interfaces && are_apart id_of_interface interfaces
 
-<<<<<<< 8bde38ab
 -- the guest's CID is one that a guest may have (VIRTIO 1.2, 5.10.4), and the socket's name is a path
 abbrev pub is_vsock : vsock.Vsock → Bool
 is_vsock v = nat_le 3 v.guest_cid && nat_lt v.guest_cid 4294967295 && is_path v.uds_path
@@ -98,20 +87,13 @@ abbrev pub is_mmds : List Interface → MmdsConfig → Bool
 is_mmds interfaces m =
     are_ids m.network_interfaces && list_all (has_interface interfaces) m.network_interfaces && is_address m.ipv4_address
 
-=======
->>>>>>> m
 -- the balloon of a machine of so many MiB takes no more than all of them
 abbrev pub is_balloon : ℕ → balloon.Balloon → Bool
 is_balloon mib b = nat_le b.amount_mib mib && nat_lt b.stats_polling_interval_s (2 ^ 16)
 
 -- there are as many devices as ports at most
-<<<<<<< 8bde38ab
 abbrev pub has_room : List Drive → List Interface → Option vsock.Vsock → Option balloon.Balloon → Bool
 has_room drives interfaces v b = nat_le (count_in drives interfaces v b) most_ports
-=======
-abbrev pub has_room : List Drive → List Interface → Option balloon.Balloon → Bool
-has_room drives interfaces b = nat_le (count_in drives interfaces b) most_ports
->>>>>>> m
 
 -- ---- the board
 
@@ -186,18 +168,11 @@ kind_of d = number_of (kept_of d).kind
 abbrev pub kind_configured : Configured → DeviceKind
 kind_configured (of_drive d) = Block
 kind_configured (of_interface i) = Net
-<<<<<<< 8bde38ab
 kind_configured (of_vsock v) = Vsock
 kind_configured (of_balloon b) = Balloon
 
 abbrev pub kinds_of : Configuration → List DeviceKind
 kinds_of c = map kind_configured (devices_in c.drives c.interfaces c.vsock c.balloon)
-=======
-kind_configured (of_balloon b) = Balloon
-
-abbrev pub kinds_of : Configuration → List DeviceKind
-kinds_of c = map kind_configured (devices_in c.drives c.interfaces c.balloon)
->>>>>>> m
 
 -- the device at this port of a guest of so many pages, with data that a device keeps
 abbrev pub is_device : ℕ → ℕ → Device → Bool
@@ -253,17 +228,11 @@ is_valid c =
     is_source c.configuration.boot_source
     && are_drives c.configuration.drives
     && are_interfaces c.configuration.interfaces
-<<<<<<< 8bde38ab
     && holds is_vsock c.configuration.vsock
     && holds (is_mmds c.configuration.interfaces) c.configuration.mmds
     && has_machine c c.configuration.machine
     && holds (is_balloon c.configuration.machine.mem_size_mib) c.configuration.balloon
     && has_room c.configuration.drives c.configuration.interfaces c.configuration.vsock c.configuration.balloon
-=======
-    && has_machine c c.configuration.machine
-    && holds (is_balloon c.configuration.machine.mem_size_mib) c.configuration.balloon
-    && has_room c.configuration.drives c.configuration.interfaces c.configuration.balloon
->>>>>>> m
     && is_board c.configuration.machine.vcpu_count c.board
     && (length c.harts == c.configuration.machine.vcpu_count)
     && list_all (is_hart c.pages) c.harts

@@ -4,42 +4,9 @@ ghost use Rattle.std.specs.Str.{bytes_eq};
 ghost use Rattle.api_calls.specs.Addresses as addresses;
 ghost use Rattle.api_calls.specs.Form.{holds};
 
-<<<<<<< 8bde38ab
 use api_calls::is_mac;
 use vm_types::TextList;
 
-=======
-use vm_types::TextList;
-
-/// How many bytes it has as a text.
-const LENGTH: usize = 17;
-
-fn are_digits(first: u8, second: u8) -> bool
-    ensures { result ≡ addresses.are_digits first second }
-{
-    first.is_ascii_hexdigit() && second.is_ascii_hexdigit()
-}
-
-// Pairs of hexadecimal digits, with colons between.
-fn are_pairs(text: &[u8]) -> bool
-    ensures { result ≡ addresses.are_pairs text.now }
-{
-    match text {
-        [first, second] => are_digits(*first, *second),
-        [first, second, between, rest @ ..] => {
-            are_digits(*first, *second) && *between == b':' && are_pairs(rest)
-        }
-        _ => false,
-    }
-}
-
-fn is_mac(text: &[u8]) -> bool
-    ensures { result ≡ addresses.is_mac text.now }
-{
-    text.len() == LENGTH && are_pairs(text)
-}
-
->>>>>>> m
 // Each of its letters is small.
 fn is_small(text: &[u8]) -> bool
     ensures { result ≡ bytes_eq (addresses.lowered text.now) text.now }

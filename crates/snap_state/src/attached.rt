@@ -1,23 +1,14 @@
-<<<<<<< 8bde38ab
 // Which drives, interfaces and devices there are, and at which of them metadata are given.
-=======
-// Which drives, interfaces and devices there are.
->>>>>>> m
 ghost use Rattle.std.specs.Prelude.{◌≡◌, count_by, nat_le};
 ghost use Rattle.std.specs.List.{list_all};
 ghost use Rattle.api_calls.specs.Drives.{is_root};
 ghost use Rattle.api_calls.specs.Form.{is_id, is_id_byte};
-<<<<<<< 8bde38ab
 ghost use Rattle.vm_config.specs.Devices.{balloon_count, vsock_count};
 ghost use Rattle.vm_config.specs.Interfaces.{has_interface};
-=======
-ghost use Rattle.vm_config.specs.Devices.{balloon_count};
->>>>>>> m
 ghost use Rattle.vm_config.specs.Named.{are_apart, has_named};
 ghost use Rattle.snap_state.specs.Valid.{are_devices, are_drives, are_interfaces, has_room, is_device, is_drive, is_interface};
 
 use crate::address::holds_mac;
-<<<<<<< 8bde38ab
 use crate::filed::Filed;
 use crate::limits::holds_limiter;
 use crate::valid::is_path;
@@ -27,18 +18,6 @@ use port_table::MOST_DEVICES;
 use snap_devices::SavedDevice;
 use vm_config::Named;
 use vm_types::TextList;
-=======
-use crate::limits::holds_limiter;
-use crate::valid::is_path;
-use api_calls::{Balloon, Drive, Interface};
-use file_format::Listed;
-use guest_devices::Device;
-use snap_devices::Saved;
-use vm_config::Named;
-
-/// The board has a line for so many devices.
-const MOST_DEVICES: usize = 16;
->>>>>>> m
 
 const MOST_ID: usize = 64;
 
@@ -134,7 +113,6 @@ pub fn are_interfaces(interfaces: &[Interface]) -> bool
     have_links(interfaces) && are_apart(interfaces)
 }
 
-<<<<<<< 8bde38ab
 /// Whether each of these ids is that of one of them.
 pub fn are_there(interfaces: &[Interface], ids: &[TextList]) -> bool
     ensures { result ≡ list_all (has_interface interfaces.now) ids.now }
@@ -142,8 +120,6 @@ pub fn are_there(interfaces: &[Interface], ids: &[TextList]) -> bool
     ids.iter().all(|id| is_used(id.as_str(), interfaces))
 }
 
-=======
->>>>>>> m
 fn balloon_count(balloon: &Option<Balloon>) -> usize
     ensures { result ≡ balloon_count balloon.now }
 {
@@ -153,7 +129,6 @@ fn balloon_count(balloon: &Option<Balloon>) -> usize
     }
 }
 
-<<<<<<< 8bde38ab
 /// How many of them there are.
 pub fn vsock_count(vsock: &Option<Filed<Vsock>>) -> usize
     ensures { result ≡ vsock_count vsock.now }
@@ -178,16 +153,6 @@ pub fn has_room(
 }
 
 fn is_device(pages: u32, port: usize, item: &Listed<SavedDevice>) -> bool
-=======
-/// Whether there are no more devices than there may be.
-pub fn has_room(drives: &[Drive], interfaces: &[Interface], balloon: &Option<Balloon>) -> bool
-    ensures { result ≡ has_room drives.now interfaces.now balloon.now }
-{
-    drives.len() + interfaces.len() + balloon_count(balloon) <= MOST_DEVICES
-}
-
-fn is_device(pages: u32, port: usize, item: &Listed<Saved<Device>>) -> bool
->>>>>>> m
     ensures { result ≡ is_device pages port item.now }
 {
     let device = item.value.device();
@@ -195,11 +160,7 @@ fn is_device(pages: u32, port: usize, item: &Listed<Saved<Device>>) -> bool
 }
 
 /// Whether these are the devices of the ports from 0 on, in a guest of so many pages.
-<<<<<<< 8bde38ab
 pub fn are_devices(pages: u32, devices: &[Listed<SavedDevice>]) -> bool
-=======
-pub fn are_devices(pages: u32, devices: &[Listed<Saved<Device>>]) -> bool
->>>>>>> m
     ensures { result ≡ are_devices pages 0 devices.now }
 {
     for (port, device) in devices.iter().enumerate() {

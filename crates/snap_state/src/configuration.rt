@@ -3,11 +3,7 @@ ghost use Rattle.snap_state.specs.Configured.{boot_source, configuration};
 
 use crate::filed::{Filed, for_file, taken};
 use crate::listed::{SavedDrives, SavedInterfaces};
-<<<<<<< 8bde38ab
 use api_calls::{Balloon, MachineConfig, MmdsConfig, Vsock};
-=======
-use api_calls::{Balloon, MachineConfig};
->>>>>>> m
 use file_format::{Input, ReadError, Stored, read_fixed, read_zeros, write_fixed, write_zeros};
 use std::alloc::{AllocError, Global};
 use vm_types::TextList;
@@ -28,16 +24,11 @@ pub struct Configuration {
     pub drives: SavedDrives,
     /// In the order in which they were first put.
     pub interfaces: SavedInterfaces,
-<<<<<<< 8bde38ab
     pub vsock: Option<Filed<Vsock>>,
     pub machine: MachineConfig,
     pub balloon: Option<Balloon>,
     /// How the guest is given metadata.
     pub mmds: Option<Filed<MmdsConfig>>,
-=======
-    pub machine: MachineConfig,
-    pub balloon: Option<Balloon>,
->>>>>>> m
 }
 
 #[tactic(auto, unfolding(crate::specs::Configured::boot_source))]
@@ -70,27 +61,18 @@ impl Stored for Configuration {
         self.boot_source.write(out)?;
         self.drives.write(out)?;
         self.interfaces.write(out)?;
-<<<<<<< 8bde38ab
         self.vsock.write(out)?;
-=======
-        write_zeros(1, out)?;
->>>>>>> m
         self.machine.vcpu_count.write(out)?;
         self.machine.mem_size_mib.write(out)?;
         write_zeros(1, out)?;
         self.machine.track_dirty_pages.write(out)?;
         for_file(self.balloon).write(out)?;
-<<<<<<< 8bde38ab
         self.mmds.write(out)?;
-=======
-        write_zeros(1, out)?;
->>>>>>> m
         Ok(())
     }
 
     fn read(alloc: Global, input: &mut Input) -> Result<Configuration, ReadError> {
         read_fixed(&[1], input)?;
-<<<<<<< 8bde38ab
         let (boot_source, (drives, (interfaces, vsock))): (
             BootSource,
             (SavedDrives, (SavedInterfaces, Option<Filed<Vsock>>)),
@@ -101,35 +83,18 @@ impl Stored for Configuration {
             bool,
             (Option<Filed<Balloon>>, Option<Filed<MmdsConfig>>),
         ) = Stored::read(alloc, input)?;
-=======
-        let (boot_source, (drives, interfaces)): (BootSource, (SavedDrives, SavedInterfaces)) =
-            Stored::read(alloc, input)?;
-        read_zeros(1, input)?;
-        let (vcpu_count, mem_size_mib) = Stored::read(alloc, input)?;
-        read_zeros(1, input)?;
-        let (track_dirty_pages, balloon): (bool, Option<Filed<Balloon>>) = Stored::read(
-            alloc, input,
-        )?;
-        read_zeros(1, input)?;
->>>>>>> m
         Ok(Configuration {
             boot_source,
             drives,
             interfaces,
-<<<<<<< 8bde38ab
             vsock,
-=======
->>>>>>> m
             machine: MachineConfig {
                 vcpu_count,
                 mem_size_mib,
                 track_dirty_pages,
             },
             balloon: taken(balloon),
-<<<<<<< 8bde38ab
             mmds,
-=======
->>>>>>> m
         })
     }
 }

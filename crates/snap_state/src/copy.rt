@@ -2,17 +2,12 @@
 ghost use Rattle.std.specs.Prelude.{◌≡◌, OnOk};
 ghost use Rattle.file_format.specs.Versions.{current_version};
 ghost use Rattle.file_format.specs.Reading.{Takes};
-ghost use Rattle.snap_state.specs.Copies.{reservation, section, sections_in, state_copy};
+ghost use Rattle.snap_state.specs.Copies.{behind_harts, behind_time, reservation, section, sections_in, state_copy};
 
 use crate::board::SavedBoard;
 use crate::configuration::Configuration;
 use crate::devices::{read_devices, write_devices};
-<<<<<<< 8bde38ab
 use file_format::{Counted, Input, Items, Listed, ReadError, Stored, Version};
-=======
-use file_format::{Counted, Input, Items, Listed, ReadError, Stored};
-use guest_devices::Device;
->>>>>>> m
 use mmio_port::Port;
 use snap_devices::{Saved, SavedDevice};
 use snap_harts::SavedHart;
@@ -49,11 +44,7 @@ pub struct StateCopy {
     /// The ports of the devices, by their numbers.
     pub ports: Items<Counted<Saved<Port>>>,
     /// The devices, each by the number of its port.
-<<<<<<< 8bde38ab
     pub devices: Items<Listed<SavedDevice>>,
-=======
-    pub devices: Items<Listed<Saved<Device>>>,
->>>>>>> m
     /// By page and then by hart.
     pub reservations: Items<Reservation>,
     /// By their tags, which rise.
@@ -115,6 +106,44 @@ fn read_sections(
     }
 }
 
+type BehindHarts = (
+    Items<Counted<Saved<Port>>>,
+    (
+        Items<Listed<SavedDevice>>,
+        (Items<Reservation>, Items<Section>),
+    ),
+);
+
+// What stands behind the harts.
+#[tactic(auto)]
+fn read_behind_harts(
+    alloc: Global,
+    version: Version,
+    input: &mut Input,
+) -> Result<BehindHarts, ReadError>
+    ensures { Takes (behind_harts version) input.old input.new result }
+{
+    let ports = Stored::read(alloc, input)?;
+    let devices = read_devices(alloc, input)?;
+    let reservations = Stored::read(alloc, input)?;
+    let sections = read_sections(alloc, version, input)?;
+    Ok((ports, (devices, (reservations, sections))))
+}
+
+// What stands behind guest time.
+#[tactic(auto)]
+fn read_behind_time(
+    alloc: Global,
+    version: Version,
+    input: &mut Input,
+) -> Result<(SavedBoard, (Items<SavedHart>, BehindHarts)), ReadError>
+    ensures { Takes (behind_time version) input.old input.new result }
+{
+    let (board, harts) = Stored::read(alloc, input)?;
+    let behind = read_behind_harts(alloc, version, input)?;
+    Ok((board, (harts, behind)))
+}
+
 /// The copy at the front of a body of this version.
 #[tactic(auto, unfolding(crate::specs::Copies::state_copy))]
 pub(crate) fn read_copy(
@@ -125,11 +154,9 @@ pub(crate) fn read_copy(
     ensures { Takes (state_copy version) input.old input.new result }
 {
     let (configuration, (pages, (track_dirty_pages, guest_time))) = Stored::read(alloc, input)?;
-    let (board, harts) = Stored::read(alloc, input)?;
-    let ports = Stored::read(alloc, input)?;
-    let devices = read_devices(alloc, input)?;
-    let reservations = Stored::read(alloc, input)?;
-    let sections = read_sections(alloc, version, input)?;
+    let (board, (harts, (ports, (devices, (reservations, sections))))) = read_behind_time(
+        alloc, version, input,
+    )?;
     Ok(StateCopy {
         configuration,
         pages,

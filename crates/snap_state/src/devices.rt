@@ -4,25 +4,13 @@ ghost use Rattle.file_format.specs.Reading.{Takes};
 ghost use Rattle.snap_state.specs.Copies.{devices};
 
 use file_format::{Input, Items, Listed, ReadError, Stored, read_items};
-<<<<<<< 8bde38ab
 use port_table::MOST_DEVICES;
 use snap_devices::SavedDevice;
-=======
-use guest_devices::Device;
-use snap_devices::Saved;
->>>>>>> m
 use std::alloc::{AllocError, Global};
 
 /// Puts the devices at the end. More than there can be are given up as if there were no memory.
 #[tactic(auto, unfolding(crate::specs::Copies::devices))]
-<<<<<<< 8bde38ab
 pub fn write_devices(list: &Items<Listed<SavedDevice>>, out: &mut Vec<u8>) -> Result<(), AllocError>
-=======
-pub fn write_devices(
-    list: &Items<Listed<Saved<Device>>>,
-    out: &mut Vec<u8>,
-) -> Result<(), AllocError>
->>>>>>> m
     ensures fits { OnOk result (devices.Fits list.now) }
     ensures bytes { OnOk result (out.new.items ≡ devices.puts list.now out.old.items) }
 {
@@ -37,11 +25,7 @@ pub fn write_devices(
 pub fn read_devices(
     alloc: Global,
     input: &mut Input,
-<<<<<<< 8bde38ab
 ) -> Result<Items<Listed<SavedDevice>>, ReadError>
-=======
-) -> Result<Items<Listed<Saved<Device>>>, ReadError>
->>>>>>> m
     ensures { Takes devices input.old input.new result }
 {
     let count = u32::read(alloc, input)?;

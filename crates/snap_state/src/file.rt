@@ -19,7 +19,6 @@ use vm_types::Identity;
 /// How many bytes the header of a state file has.
 pub const STATE_HEADER: usize = 32;
 
-<<<<<<< 8bde38ab
 /// What stands behind its gate: "RVFCSTA", and the version.
 pub fn state_magic(version: Version) -> [u8; 11]
     ensures { result ≡ magic version }
@@ -29,10 +28,6 @@ pub fn state_magic(version: Version) -> [u8; 11]
         Version::Two => [82, 86, 70, 67, 83, 84, 65, 2, 0, 0, 0],
     }
 }
-=======
-/// What stands behind its gate: "RVFCSTA", and version 1.
-pub const STATE_MAGIC: [u8; 11] = [82, 86, 70, 67, 83, 84, 65, 1, 0, 0, 0];
->>>>>>> m
 
 /// A copy, under the identity of its snapshot.
 #[derive(Drop)]
@@ -80,12 +75,8 @@ pub fn decode(alloc: Global, bytes: &[u8]) -> Result<Saved, DecodeError>
     if is_closed(bytes, STATE_HEADER) {
         return Err(DecodeError::GateClosed);
     }
-<<<<<<< 8bde38ab
     let version = version_of(bytes);
     if is_other(bytes, &state_magic(version)) {
-=======
-    if is_other(bytes, &STATE_MAGIC) {
->>>>>>> m
         return Err(DecodeError::WrongMagic);
     }
     let (_, rest) = bytes.split_at(12);
@@ -107,11 +98,7 @@ fn with_header(alloc: Global, identity: Identity, body: &[u8]) -> Result<Vec<u8>
         return Err(AllocError);
     };
     let mut behind = Vec::new(alloc);
-<<<<<<< 8bde38ab
     behind.extend_from_slice(&state_magic(Version::Two))?;
-=======
-    behind.extend_from_slice(&STATE_MAGIC)?;
->>>>>>> m
     len.write(&mut behind)?;
     identity.write(&mut behind)?;
     behind.extend_from_slice(body)?;
@@ -126,12 +113,8 @@ pub fn encode_behind_gate(
 ) -> Result<Vec<u8>, AllocError>
     requires valid { IsTrue (is_valid copy.now) }
     requires numbered { IsTrue (is_numbered identity) }
-<<<<<<< 8bde38ab
     ensures encodes { IfOk result (λ behind. Encodes (1 ∷ behind.items) (record { identity = identity; copy = copy.now })) }
     ensures version { IfOk result (λ behind. version_of (1 ∷ behind.items) ≡ current_version) }
-=======
-    ensures { IfOk result (λ behind. Encodes (1 ∷ behind.items) (record { identity = identity; copy = copy.now })) }
->>>>>>> m
 {
     let mut body = Vec::new(alloc);
     copy.write(&mut body)?;

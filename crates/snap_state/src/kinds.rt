@@ -1,6 +1,5 @@
 // Which kinds of ports and devices there are.
 ghost use Rattle.std.specs.Prelude.{◌≡◌, map, slice_get};
-<<<<<<< 8bde38ab
 ghost use Rattle.vm_config.specs.Devices.{balloon_devices, vsock_devices};
 ghost use Rattle.snap_state.specs.Valid as valid;
 
@@ -12,18 +11,6 @@ use file_format::{Counted, Listed};
 use mmio_port::Port;
 use port_table::DeviceKind;
 use snap_devices::{Saved, SavedDevice};
-=======
-ghost use Rattle.vm_config.specs.Devices.{balloon_devices};
-ghost use Rattle.snap_state.specs.Valid as valid;
-
-use crate::configuration::Configuration;
-use api_calls::Balloon;
-use file_format::{Counted, Listed};
-use guest_devices::Device;
-use mmio_port::Port;
-use port_table::DeviceKind;
-use snap_devices::Saved;
->>>>>>> m
 
 fn is_kind(due: DeviceKind, kind: DeviceKind) -> bool
     ensures { result ≡ valid.is_kind due kind }
@@ -46,7 +33,6 @@ fn is_kind_due(due: Option<DeviceKind>, kind: DeviceKind) -> bool
     }
 }
 
-<<<<<<< 8bde38ab
 fn vsock_kind(vsock: &Option<Filed<Vsock>>) -> Option<DeviceKind>
     ensures { result ≡ slice_get (map valid.kind_configured (vsock_devices vsock.now)) 0 }
 {
@@ -56,8 +42,6 @@ fn vsock_kind(vsock: &Option<Filed<Vsock>>) -> Option<DeviceKind>
     }
 }
 
-=======
->>>>>>> m
 fn balloon_kind(balloon: &Option<Balloon>) -> Option<DeviceKind>
     ensures { result ≡ slice_get (map valid.kind_configured (balloon_devices balloon.now)) 0 }
 {
@@ -80,16 +64,12 @@ fn kind_due(configuration: &Configuration, number: usize) -> Option<DeviceKind>
     if behind < interfaces {
         return Some(DeviceKind::Net);
     }
-<<<<<<< 8bde38ab
     let last = behind - interfaces;
     let sockets = vsock_count(&configuration.vsock);
     if last < sockets {
         return vsock_kind(&configuration.vsock);
     }
     if last == sockets {
-=======
-    if behind == interfaces {
->>>>>>> m
         return balloon_kind(&configuration.balloon);
     }
     None
@@ -111,7 +91,6 @@ pub fn are_ports(configuration: &Configuration, ports: &[Counted<Saved<Port>>]) 
 }
 
 /// Whether these are the devices that are configured.
-<<<<<<< 8bde38ab
 pub fn are_device_kinds(configuration: &Configuration, devices: &[Listed<SavedDevice>]) -> bool
     ensures { result ≡ valid.are_kinds (valid.kinds_of configuration.now) 0 (map valid.kind_of devices.now) }
 {
@@ -120,13 +99,6 @@ pub fn are_device_kinds(configuration: &Configuration, devices: &[Listed<SavedDe
             kind_due(configuration, number),
             device.value.device().kind(),
         ) {
-=======
-pub fn are_device_kinds(configuration: &Configuration, devices: &[Listed<Saved<Device>>]) -> bool
-    ensures { result ≡ valid.are_kinds (valid.kinds_of configuration.now) 0 (map valid.kind_of devices.now) }
-{
-    for (number, device) in devices.iter().enumerate() {
-        if !is_kind_due(kind_due(configuration, number), device.value.value.kind()) {
->>>>>>> m
             return false;
         }
     }

@@ -22,22 +22,15 @@ mod kinds;
 mod law;
 mod limits;
 mod listed;
-<<<<<<< 8bde38ab
 mod mmds;
-=======
->>>>>>> m
 mod valid;
 mod vsock;
 
 pub use board::SavedBoard;
 pub use configuration::{BootSource, Configuration};
 pub use copy::{Reservation, Section, StateCopy};
-<<<<<<< 8bde38ab
 pub use file::{STATE_HEADER, Saved, decode, encode_behind_gate, state_magic};
 pub use filed::{Filed, taken};
-=======
-pub use file::{STATE_HEADER, STATE_MAGIC, Saved, decode, encode_behind_gate};
->>>>>>> m
 pub use law::{one_copy, one_of_each};
 pub use listed::{Item, SavedDrives, SavedInterfaces, SavedList};
 pub use valid::is_valid;

@@ -15,11 +15,8 @@ use crate::board::SavedBoard;
 use crate::configuration::BootSource;
 use crate::copy::{Reservation, Section, StateCopy};
 use crate::kinds::{are_device_kinds, are_ports};
-<<<<<<< 8bde38ab
 use crate::mmds::holds_mmds;
 use crate::vsock::holds_vsock;
-=======
->>>>>>> m
 use api_calls::MachineConfig;
 use board_table::RING_SIZE;
 use guest_memory::{PAGE_SIZE, RAM_START, is_ram};
@@ -28,7 +25,6 @@ use rv_supervisor::{HartCsr, INTERRUPTS, Regs, csr_value};
 use snap_harts::{HartPlace, SavedHart};
 use vm_types::TextList;
 
-<<<<<<< 8bde38ab
 fn has_path_bytes(text: &str) -> bool
     ensures { result ≡ has_path_bytes text.now }
 {
@@ -43,24 +39,6 @@ fn is_within(most: usize, text: &str) -> bool
 }
 
 pub(crate) fn is_short_text(most: usize, text: &str) -> bool
-=======
-const RING_SIZE: usize = 4096;
-
-fn has_path_bytes(text: &str) -> bool
-    ensures { result ≡ has_path_bytes text.now }
-{
-    let bytes = text.as_bytes();
-    0 < bytes.len() && bytes.len() <= 4095 && !bytes.contains(&0)
-}
-
-fn is_within(most: usize, text: &str) -> bool
-    ensures { result ≡ nat_le (length text.now) most }
-{
-    text.len() <= most
-}
-
-fn is_short_text(most: usize, text: &str) -> bool
->>>>>>> m
     ensures { result ≡ is_short_text most text.now }
 {
     is_within(most, text)
@@ -247,23 +225,17 @@ pub fn is_valid(copy: &StateCopy) -> bool
     is_source(&copy.configuration.boot_source)
         && are_drives(&copy.configuration.drives.items)
         && are_interfaces(&copy.configuration.interfaces.items)
-<<<<<<< 8bde38ab
         && holds_vsock(&copy.configuration.vsock)
         && holds_mmds(
             &copy.configuration.interfaces.items,
             &copy.configuration.mmds,
         )
-=======
->>>>>>> m
         && has_machine(copy, machine)
         && holds_balloon(machine.mem_size_mib, &copy.configuration.balloon)
         && has_room(
             &copy.configuration.drives.items,
             &copy.configuration.interfaces.items,
-<<<<<<< 8bde38ab
             &copy.configuration.vsock,
-=======
->>>>>>> m
             &copy.configuration.balloon,
         )
         && is_board(harts, &copy.board)

@@ -12,11 +12,7 @@ use Rattle.api_calls.proofs.Asked.{IsAsked, asked_is}
 use Rattle.vm_config.specs.declared.change.Change.{Change}
 use Rattle.vm_config.specs.declared.change.Change.TheVariants as change
 use Rattle.api_rules.specs.Table.{is_diff, is_paused, own_refusal}
-<<<<<<< 8bde38ab
 use Rattle.responses.specs.Responses.{Response}
-=======
-use Rattle.response_form.specs.Responses.{Response}
->>>>>>> m
 use Rattle.snap_state.specs.declared.copy.StateCopy.{StateCopy}
 use Rattle.guest_devices.specs.declared.device.Device.{Device}
 use Rattle.flat_guest.specs.Changes.{reset_guest}

@@ -98,19 +98,10 @@ differs a b other = false_from_ne_true (is_same a b) (λ e.
 all_three : (a b c : Bool) → a ≡ true → b ≡ true → c ≡ false → (a && b && not c) ≡ true
 all_three a b c p q r = rw (p, q, r) refl
 
-<<<<<<< 8bde38ab
 names_fit : (pages : ℕ) (parent own : Identity) → identity.Fits parent → memory.header.Fits (memory.new_header pages own)
     → diffs.names.Fits (record { pages = pages; parent = parent; identity = own })
 unfolding memory.header diffs.names
 names_fit pages parent own of fits = (fits.1.1.0, (of, fits.1.1.1.0))
-=======
-header_fits : (pages count : ℕ) (parent own : Identity) → identity.Fits parent → count ≤ pages → memory.header.Fits (memory.new_header pages own)
-    → diffs.header.Fits (record { pages = pages; parent = parent; identity = own; count = count })
-unfolding memory.header diffs.header number32 fixed zeros
-header_fits pages count parent own of few fits =
-    let small = fits.1.1.0 in
-    (refl, (refl, (small, (of, (fits.1.1.1.0, (omega (arith, few, small), tt))))))
->>>>>>> m
 
 module _ (s : Saving) (parent : Identity) (is : IsSaving snapshot.Diff s) (base : s.before.ids.base ≡ Some parent) (of : identity.Fits parent)
     (numbered : IsTrue (is_numbered parent)) (other : parent ≢ identity_of s) where
@@ -120,11 +111,7 @@ module _ (s : Saving) (parent : Identity) (is : IsSaving snapshot.Diff s) (base 
   pub diff_is_file : IsDiffFile (diff_file (diff_since parent s)) (diff_since parent s)
   diff_is_file =
       is_file parent (identity_of s) s.copy.pages s.guest
-<<<<<<< 8bde38ab
       (names_fit s.copy.pages parent (identity_of s) of (fits snapshot.Diff s is))
-=======
-      (header_fits s.copy.pages (length (diff_since parent s).numbers) parent (identity_of s) of (written_few s.guest.written 0 s.copy.pages) (fits snapshot.Diff s is))
->>>>>>> m
       (all_three (is_numbered parent) (is_numbered (identity_of s)) (is_same parent (identity_of s)) numbered (copy_saved snapshot.Diff s is).numbered (differs parent (identity_of s) other))
       is.whole
 

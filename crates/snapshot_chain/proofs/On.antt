@@ -127,10 +127,7 @@ leaves_on (change.PatchInterface patch) m n on is =
     ∙ relimited_on transmits_told patch.tx_rate_limiter number (relimited receives_told patch.rx_rate_limiter number m.guest)
     (relimited_on receives_told patch.rx_rate_limiter number m.guest on)
 leaves_on (change.MachineConfig machine) m n on is = ap is_off is ∙ on
-<<<<<<< 8bde38ab
 leaves_on (change.PutVsock vsock) m n on is = ap is_off is ∙ on
-=======
->>>>>>> m
 leaves_on (change.PutBalloon balloon) m n on is = ap is_off is ∙ on
 leaves_on (change.PatchBalloon patch) m n on is =
     ap is_off is ∙ retargeted_on (with_amount patch m.config.balloon) (balloon_device m.config) m.guest on
@@ -157,10 +154,7 @@ fails_on (change.PatchDrive patch) m left n on x = on_is m n x.3 on
 fails_on (change.PutInterface interface) m left n on x = absurd x
 fails_on (change.PatchInterface patch) m left n on x = absurd x
 fails_on (change.MachineConfig machine) m left n on x = absurd x
-<<<<<<< 8bde38ab
 fails_on (change.PutVsock vsock) m left n on x = absurd x
-=======
->>>>>>> m
 fails_on (change.PutBalloon balloon) m left n on x = absurd x
 fails_on (change.PatchBalloon patch) m left n on x = absurd x
 fails_on (change.PatchStatistics patch) m left n on x = absurd x

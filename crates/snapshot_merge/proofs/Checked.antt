@@ -1,8 +1,7 @@
 -- Stored pages that are looked at one by one.
 use Rattle.std.proofs.Common.{◌≡◌, ℕ, Result, Ok, Err, subst, ◌+◌, ◌*◌, ◌-◌, ◌<◌, ◌≤◌, ◌&&◌, Bool, true, false, not, List, length, drop, take, Option, Some, None, sym, ap, ◌∙◌, arith}
 use Rattle.std.specs.Prelude.{IfOk}
-use Rattle.vm_outside.specs.Filing.{IsReadAt, SameFiles}
-use Rattle.vm_outside.specs.Known.{FilesKnown}
+use Rattle.vm_outside.specs.Filing.{IsReadAt}
 use Rattle.file_format.specs.Readers.{are_zeros}
 use Rattle.snap_diff.specs.declared.header.DiffHeader.{DiffHeader}
 use Rattle.snap_diff.specs.declared.run.Run.{Run}
@@ -11,9 +10,6 @@ use Rattle.snap_diff.proofs.Filled.{all_of, kinds_from}
 use Rattle.snapshot_merge.specs.declared.error.RebaseError.{RebaseError}
 use Rattle.snapshot_merge.specs.declared.finding.DiffStart.{DiffStart}
 use Rattle.snapshot_merge.specs.Answering.{AreRunsOf, IsHeader, IsWhole}
-
-pub same_later : (old mid new : FilesKnown) → SameFiles old mid → SameFiles mid new → SameFiles old new
-same_later old mid new first second = record { saved = second.saved ∙ first.saved; calls = second.calls ∙ first.calls }
 
 page_read : (content : Option (List ℕ)) (given page : List ℕ) (at place i : ℕ) → content ≡ Some given → IsReadAt content place page
     → place ≡ at + 4096 * i → length page ≡ 4096 → page ≡ take 4096 (drop (at + 4096 * i) given)

@@ -233,8 +233,8 @@ module _ (base diff : List ℕ) (start : DiffStart) (d : DiffCopy) (text : List 
         (sync_runs base (written_all writes text) now new (there_after base _ (written_all writes text) old now did_all) synced)
 
   -- what is there still is after calls on the base
-  pub still_there : (script : List FileCall) (other : List ℕ) (now : FilesKnown) → RunsAll base script other old now → AreThere base diff start d now.saved
-  still_there script other now runs = record {
+  pub still_there : (calls : List FileCall) (other : List ℕ) (now : FilesKnown) → RunsAll base calls other old now → AreThere base diff start d now.saved
+  still_there calls other now runs = record {
     differ = are.differ;
     there = subst (λ (o : Option (List ℕ)). IsStartIn o start d) (sym (inserted_others old.saved now.saved base other runs.saved diff are.differ)) are.there;
   }

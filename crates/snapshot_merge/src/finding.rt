@@ -113,18 +113,8 @@ fn find_rest<F: Files>(
     ensures cause { RebaseCause result (F.known files.old).health.faults (F.known files.new).health.faults }
     ensures lasts { Lasts (F.known files.old).health (F.known files.new).health }
 {
-<<<<<<< 8bde38ab
     match table_of(alloc, files, name, header) {
         Ok(runs) => check_pages(alloc, files, name, DiffStart { header, runs }),
-=======
-    let front = DiffHeader::SIZE as u64 + 4 * header.count as u64;
-    let bytes = match read_front(alloc, files, name, front) {
-        Ok(bytes) => bytes,
-        Err(why) => return Err(failed_by(why)),
-    };
-    match judge_table(header, &bytes) {
-        Ok(()) => Ok(DiffStart { header, bytes }),
->>>>>>> m
         Err(why) => Err(why),
     }
 }

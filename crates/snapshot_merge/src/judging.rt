@@ -83,11 +83,7 @@ fn size_diff(size: u64, header: DiffHeader) -> Result<DiffHeader, RebaseError>
     ensures header { IfOk result (λ h. IsHeader h) }
     ensures cause { (n : ℕ) → RebaseCause result n n }
 {
-<<<<<<< 8bde38ab
     if size == DiffHeader::SIZE as u64 + header.size_behind() {
-=======
-    if size == DiffHeader::SIZE as u64 + (4 + PAGE_SIZE as u64) * header.count as u64 {
->>>>>>> m
         Ok(header)
     } else {
         Err(RebaseError::Refused(Refusal::BadField))
@@ -107,15 +103,9 @@ pub(crate) fn judge_table(
     ensures table { IfOk result (λ runs. IsTrue (is_table header runs)) }
     ensures cause { (n : ℕ) → RebaseCause result n n }
 {
-<<<<<<< 8bde38ab
     match read_table(alloc, &header, &bytes[DiffHeader::SIZE..]) {
         Ok(runs) => Ok(runs),
         Err(ReadError::Bad) => Err(RebaseError::Refused(Refusal::BadField)),
         Err(ReadError::Memory) => Err(RebaseError::OutOfMemory),
-=======
-    match check_table(&bytes[DiffHeader::SIZE..], header.pages) {
-        Ok(()) => Ok(()),
-        Err(_) => Err(RebaseError::Refused(Refusal::BadField)),
->>>>>>> m
     }
 }

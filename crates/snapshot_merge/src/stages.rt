@@ -15,11 +15,7 @@ ghost use Rattle.vm_outside.specs.Known.{Called, Tells};
 
 use crate::finding::DiffStart;
 use guest_memory::PAGE_SIZE;
-<<<<<<< 8bde38ab
 use snap_diff::{DiffHeader, Run};
-=======
-use snap_diff::{DiffHeader, table_page};
->>>>>>> m
 use snap_memory::MemHeader;
 use vm_outside::{Failed, Files};
 
@@ -137,21 +133,12 @@ fn put_pages<F: Files>(
         (F.known files.old) (F.known files.new)) }
     ensures called { Called (F.known files.old).health (F.known files.new).health result }
 {
-<<<<<<< 8bde38ab
     let _size = start.header.size_behind();
     let mut at = DiffHeader::SIZE as u64 + start.header.table_size();
     let runs = start.runs.as_slice();
     for run in runs {
         put_run(files, base, diff, at, run, page)?;
         at += stored_bytes(run);
-=======
-    let pages = DiffHeader::SIZE as u64 + 4 * start.header.count as u64;
-    for i in 0..start.header.count {
-        let number = table_page(&start.bytes[DiffHeader::SIZE..], i);
-        files.read_at(diff, pages + (PAGE_SIZE as u64) * i as u64, page)?;
-        let place = MemHeader::SIZE as u64 + PAGE_SIZE as u64 * number as u64;
-        files.write_at(base, place, page)?;
->>>>>>> m
     }
     files.sync(base)?;
     Ok(())

@@ -2,12 +2,8 @@
 use crate::escapes::bytes_of;
 use crate::words::{add_limits, add_number, add_word};
 use api_calls::{
-<<<<<<< 8bde38ab
     ApiCall, Balloon, CacheType, Drive, DrivePatch, Interface, InterfacePatch, MmdsConfig, Part,
     VmState, Vsock,
-=======
-    ApiCall, Balloon, CacheType, Drive, DrivePatch, Interface, InterfacePatch, Part, VmState,
->>>>>>> m
 };
 use api_json::{ReadError, read};
 use http_stream::{HeaderList, Request};
@@ -15,13 +11,8 @@ use metadata_store::MetadataVersion;
 use std::alloc::{AllocError, Global};
 use vm_types::{ByteList, TextList};
 
-<<<<<<< 8bde38ab
 /// Puts the name of the call of a method, a path and a body at the end, for a drive, an interface, a vsock device, a balloon and a
 /// PUT of /mmds/config with its fields, or the number of its refusal.
-=======
-/// Puts the name of the call of a method, a path and a body at the end, for a drive, an interface and a balloon with its
-/// fields, or the number of its refusal.
->>>>>>> m
 pub fn add(alloc: Global, case: &str, text: &mut String) -> Result<(), AllocError> {
     let request = request_from(alloc, case)?;
     add_read(alloc, &request, text)
@@ -74,17 +65,11 @@ fn add_call(call: &ApiCall, text: &mut String) -> Result<(), AllocError> {
         ApiCall::PatchDrive(patch) => add_patch(patch, text),
         ApiCall::PutInterface(interface) => add_interface(interface, text),
         ApiCall::PatchInterface(patch) => add_interface_patch(patch, text),
-<<<<<<< 8bde38ab
         ApiCall::PutVsock(vsock) => add_vsock(vsock, text),
         ApiCall::PutBalloon(balloon) => add_balloon(balloon, text),
         ApiCall::PatchBalloon(patch) => add_number(patch.amount_mib, text),
         ApiCall::PatchStatistics(patch) => add_number(patch.stats_polling_interval_s, text),
         ApiCall::PutMmdsConfig(mmds) => add_mmds(mmds, text),
-=======
-        ApiCall::PutBalloon(balloon) => add_balloon(balloon, text),
-        ApiCall::PatchBalloon(patch) => add_number(patch.amount_mib, text),
-        ApiCall::PatchStatistics(patch) => add_number(patch.stats_polling_interval_s, text),
->>>>>>> m
         _ => Ok(()),
     }
 }
@@ -148,14 +133,11 @@ fn add_interface_patch(patch: &InterfacePatch, text: &mut String) -> Result<(), 
     add_limits("tx", &patch.tx_rate_limiter, text)
 }
 
-<<<<<<< 8bde38ab
 fn add_vsock(vsock: &Vsock, text: &mut String) -> Result<(), AllocError> {
     add_number(vsock.guest_cid, text)?;
     add_word(vsock.uds_path.as_str(), text)
 }
 
-=======
->>>>>>> m
 fn add_balloon(balloon: &Balloon, text: &mut String) -> Result<(), AllocError> {
     add_number(balloon.amount_mib, text)?;
     add_word(deflating_word(balloon), text)?;
@@ -168,7 +150,6 @@ fn deflating_word(balloon: &Balloon) -> &'static str {
     } else {
         "stays"
     }
-<<<<<<< 8bde38ab
 }
 
 fn add_mmds(mmds: &MmdsConfig, text: &mut String) -> Result<(), AllocError> {
@@ -184,8 +165,6 @@ fn version_word(mmds: &MmdsConfig) -> &'static str {
         MetadataVersion::V1 => "v1",
         MetadataVersion::V2 => "v2",
     }
-=======
->>>>>>> m
 }
 
 fn name(call: &ApiCall) -> &'static str {
@@ -195,19 +174,13 @@ fn name(call: &ApiCall) -> &'static str {
         ApiCall::PatchDrive(_) => "drive-patch",
         ApiCall::PutInterface(_) => "interface-put",
         ApiCall::PatchInterface(_) => "interface-patch",
-<<<<<<< 8bde38ab
         ApiCall::PutVsock(_) => "vsock-put",
-=======
->>>>>>> m
         ApiCall::PutMachineConfig(_) => "machine-put",
         ApiCall::PatchMachineConfig(_) => "machine-patch",
         ApiCall::PutBalloon(_) => "balloon-put",
         ApiCall::PatchBalloon(_) => "balloon-patch",
         ApiCall::PatchStatistics(_) => "statistics-patch",
-<<<<<<< 8bde38ab
         ApiCall::PutMmdsConfig(_) => "mmds-put",
-=======
->>>>>>> m
         ApiCall::PutMetadata(_) => "metadata-put",
         ApiCall::PatchMetadata(_) => "metadata-patch",
         ApiCall::InstanceStart => "start",

@@ -39,11 +39,7 @@ module _ {T : Type 0} (id_of : T → List ℕ) (id : List ℕ) (f : T → T) (sa
   any_step other true x xs w is more = ap (λ (own : List ℕ). bytes_eq own other || has_named id_of xs other) (same x is)
   any_step other false x xs w is more = ap (λ (t : Bool). has_id id_of other x || t) more
 
-<<<<<<< 8bde38ab
   pub any_changed : (other : List ℕ) (ts : List T) → has_named id_of (changed_in id_of id f ts) other ≡ has_named id_of ts other
-=======
-  any_changed : (other : List ℕ) (ts : List T) → has_named id_of (changed_in id_of id f ts) other ≡ has_named id_of ts other
->>>>>>> m
   any_changed other [] = refl
   any_changed other (x ∷ xs) = any_step other (has_id id_of id x) x xs (changed_in id_of id f xs) refl (any_changed other xs)
 
@@ -87,7 +83,6 @@ put_by id_of ts t false is apart = apart_last id_of t ts is apart
 pub apart_put : {T : Type 0} (id_of : T → List ℕ) (ts : List T) (t : T) → are_apart id_of ts ≡ true → are_apart id_of (put_in id_of ts t) ≡ true
 apart_put id_of ts t apart = put_by id_of ts t (has_named id_of ts (id_of t)) refl apart
 
-<<<<<<< 8bde38ab
 -- and what has an id that is there
 has_put_by : {T : Type 0} (id_of : T → List ℕ) (ts : List T) (t : T) (other : List ℕ) (b : Bool) → has_named id_of ts other ≡ true
     → has_named id_of (cond b (changed_in id_of (id_of t) (λ old. t) ts) (ts ++ t ∷ [])) other ≡ true
@@ -100,8 +95,6 @@ pub has_put : {T : Type 0} (id_of : T → List ℕ) (ts : List T) (t : T) (other
     → has_named id_of (put_in id_of ts t) other ≡ true
 has_put id_of ts t other has = has_put_by id_of ts t other (has_named id_of ts (id_of t)) has
 
-=======
->>>>>>> m
 each_put_by : {T : Type 0} (id_of : T → List ℕ) (p : T → Bool) (ts : List T) (t : T) (b : Bool) → list_all p ts ≡ true → p t ≡ true
     → list_all p (cond b (changed_in id_of (id_of t) (λ old. t) ts) (ts ++ t ∷ [])) ≡ true
 each_put_by id_of p ts t true all own = each_changed id_of p (id_of t) (λ old. t) (λ old is. own) ts all

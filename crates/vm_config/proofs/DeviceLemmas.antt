@@ -9,14 +9,9 @@ use Rattle.std.proofs.lemmas.Option.{slice_get-map}
 use Rattle.api_calls.specs.declared.balloon.Balloon.{Balloon}
 use Rattle.api_calls.specs.declared.call.Drive.{Drive}
 use Rattle.api_calls.specs.declared.interface.Interface.{Interface}
-<<<<<<< 8bde38ab
 use Rattle.api_calls.specs.declared.vsock.Vsock.{Vsock}
 use Rattle.vm_config.specs.declared.config.Config.{Config}
 use Rattle.vm_config.specs.Devices.{balloon_count, balloon_device, balloon_devices, count_in, device_count, devices_in, devices_of, interface_device, of_balloon, of_drive, of_interface, vsock_count, vsock_devices}
-=======
-use Rattle.vm_config.specs.declared.config.Config.{Config}
-use Rattle.vm_config.specs.Devices.{balloon_count, balloon_device, balloon_devices, count_in, device_count, devices_in, devices_of, interface_device, of_balloon, of_drive, of_interface}
->>>>>>> m
 use Rattle.vm_config.specs.Drives.{device_of, in_order, is_named, is_root}
 use Rattle.vm_config.specs.Interfaces.{is_interface}
 
@@ -73,18 +68,14 @@ length-ordered drives =
 length-drives : (drives : List Drive) → length (map of_drive (in_order drives)) ≡ length drives
 length-drives drives = length-map (in_order drives) of_drive ∙ length-ordered drives
 
-<<<<<<< 8bde38ab
 length-vsock : (vsock : Option Vsock) → length (vsock_devices vsock) ≡ vsock_count vsock
 length-vsock None = refl
 length-vsock (Some v) = refl
 
-=======
->>>>>>> m
 length-balloon : (balloon : Option Balloon) → length (balloon_devices balloon) ≡ balloon_count balloon
 length-balloon None = refl
 length-balloon (Some b) = refl
 
-<<<<<<< 8bde38ab
 pub counted_in : (drives : List Drive) (interfaces : List Interface) (vsock : Option Vsock) (balloon : Option Balloon)
     → length (devices_in drives interfaces vsock balloon) ≡ count_in drives interfaces vsock balloon
 counted_in drives interfaces vsock balloon =
@@ -98,27 +89,11 @@ counted_in drives interfaces vsock balloon =
       length-drives drives,
       length-map interfaces of_interface,
       length-vsock vsock,
-=======
-pub counted_in : (drives : List Drive) (interfaces : List Interface) (balloon : Option Balloon)
-    → length (devices_in drives interfaces balloon) ≡ count_in drives interfaces balloon
-counted_in drives interfaces balloon =
-    let others = map of_interface interfaces ++ balloon_devices balloon in
-    omega (
-      arith,
-      length-append (map of_drive (in_order drives)) others,
-      length-append (map of_interface interfaces) (balloon_devices balloon),
-      length-drives drives,
-      length-map interfaces of_interface,
->>>>>>> m
       length-balloon balloon,
     )
 
 pub counted : (config : Config) → length (devices_of config) ≡ device_count config
-<<<<<<< 8bde38ab
 counted config = counted_in config.drives config.interfaces config.vsock config.balloon
-=======
-counted config = counted_in config.drives config.interfaces config.balloon
->>>>>>> m
 
 -- ---- which are where
 
@@ -138,11 +113,7 @@ pub interface_at : (config : Config) (id : List ℕ) (k : ℕ) → interface_dev
 interface_at config id k is =
     let number = counted_on (length config.drives) k (position (is_interface id) config.interfaces) is in
     let found = at_position (is_interface id) config.interfaces number.0 number.1 in
-<<<<<<< 8bde38ab
     let among = in_front _ (vsock_devices config.vsock ++ balloon_devices config.balloon) number.0 _ (mapped of_interface config.interfaces number.0 found.0 found.1) in
-=======
-    let among = in_front _ (balloon_devices config.balloon) number.0 _ (mapped of_interface config.interfaces number.0 found.0 found.1) in
->>>>>>> m
     (found.0, behind _ _ (length config.drives) number.0 k _ (length-drives config.drives) number.2 among, found.2)
 
 balloon_of : (n k : ℕ) (balloon : Option Balloon) → option_map (λ b. n) balloon ≡ Some k → (b : Balloon) × (balloon ≡ Some b) × (n ≡ k)
@@ -156,7 +127,6 @@ first_balloon (Some c) b is = let same : c ≡ b = cc in ap (λ (x : Balloon). S
 pub balloon_at : (config : Config) (k : ℕ) → balloon_device config ≡ Some k
     → (b : Balloon) × (config.balloon ≡ Some b) × (slice_get (devices_of config) k ≡ Some (of_balloon b))
 balloon_at config k is =
-<<<<<<< 8bde38ab
     let interfaces : ℕ = length config.interfaces in
     let vsocks : ℕ = vsock_count config.vsock in
     let there = balloon_of (length config.drives + interfaces + vsocks) k config.balloon is in
@@ -166,9 +136,3 @@ balloon_at config k is =
     vsocks (interfaces + vsocks) _ (length-map config.interfaces of_interface) refl last in
     let place : length config.drives + (interfaces + vsocks) ≡ k = let same = there.2 in omega (arith, same) in
     (there.0, there.1, behind _ _ (length config.drives) (interfaces + vsocks) k _ (length-drives config.drives) place among)
-=======
-    let there = balloon_of (length config.drives + length config.interfaces) k config.balloon is in
-    let among = behind (map of_interface config.interfaces) (balloon_devices config.balloon) (length config.interfaces) 0 (length config.interfaces) _
-    (length-map config.interfaces of_interface) (omega arith) (first_balloon config.balloon there.0 there.1) in
-    (there.0, there.1, behind _ _ (length config.drives) (length config.interfaces) k _ (length-drives config.drives) there.2 among)
->>>>>>> m

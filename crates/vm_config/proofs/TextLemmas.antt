@@ -1,10 +1,7 @@
 -- No number that is told is one that isn't whole.
 use Rattle.std.proofs.Common.{◌≡◌, ℕ, false, List, [], ◌∷◌, map, Option, Some, None, refl}
 use Rattle.std.proofs.lemmas.Bool.{or_from}
-<<<<<<< 8bde38ab
 use Rattle.serde_json.specs.Data.{string}
-=======
->>>>>>> m
 use Rattle.serde_json.specs.View.{items_of}
 use Rattle.serde_json.specs.Written.{has_float, items_have_float, members_have_float}
 use Rattle.api_calls.specs.declared.balloon.Balloon.{Balloon}
@@ -13,11 +10,8 @@ use Rattle.api_calls.specs.declared.call.Drive.{Drive}
 use Rattle.api_calls.specs.declared.interface.Interface.{Interface}
 use Rattle.api_calls.specs.declared.limiter.BucketConfig.{BucketConfig}
 use Rattle.api_calls.specs.declared.limiter.Limiter.{Limiter}
-<<<<<<< 8bde38ab
 use Rattle.api_calls.specs.declared.mmds.MmdsConfig.{MmdsConfig}
 use Rattle.api_calls.specs.declared.vsock.Vsock.{Vsock}
-=======
->>>>>>> m
 use Rattle.vm_config.specs.declared.config.Config.{Config}
 use Rattle.vm_config.specs.declared.statistics.Statistics.{Statistics}
 use Rattle.vm_config.specs.Statistics.{given, rows_of}
@@ -59,7 +53,6 @@ source_whole : (s : Option BootSource) → has_float (texts.boot_source s) ≡ f
 source_whole None = refl
 source_whole (Some s) = or_from _ _ (text_whole s.initrd_path) refl
 
-<<<<<<< 8bde38ab
 ids_whole : (ts : List (List ℕ)) → items_have_float (items_of (map string ts)) ≡ false
 ids_whole [] = refl
 ids_whole (t ∷ ts) = ids_whole ts
@@ -72,8 +65,6 @@ vsock_whole : (v : Option Vsock) → has_float (texts.vsock v) ≡ false
 vsock_whole None = refl
 vsock_whole (Some v) = refl
 
-=======
->>>>>>> m
 pub balloon_whole : (b : Option Balloon) → has_float (texts.balloon b) ≡ false
 balloon_whole None = refl
 balloon_whole (Some b) = refl
@@ -82,12 +73,8 @@ pub config_whole : (c : Config) → has_float (texts.vm_config c) ≡ false
 config_whole c =
     or_from _ _ (balloon_whole c.balloon)
     (or_from _ _ (source_whole c.boot_source)
-<<<<<<< 8bde38ab
     (or_from _ _ (drives_whole c.drives)
     (or_from _ _ (mmds_whole c.mmds) (or_from _ _ (interfaces_whole c.interfaces) (or_from _ _ (vsock_whole c.vsock) refl)))))
-=======
-    (or_from _ _ (drives_whole c.drives) (or_from _ _ (interfaces_whole c.interfaces) refl)))
->>>>>>> m
 
 given_whole : (rows : List (List ℕ × Option ℕ)) → members_have_float (given rows) ≡ false
 given_whole [] = refl

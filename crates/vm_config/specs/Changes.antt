@@ -9,25 +9,16 @@ use Rattle.vm_config.specs.declared.config.Config.{Config}
 use Rattle.vm_config.specs.declared.change.Change.{Change}
 use Rattle.vm_config.specs.declared.change.Change.TheVariants as change
 
-<<<<<<< 8bde38ab
 -- no boot source, no drive, no interface, no vsock device, no balloon, no metadata for the guest, one hart and 128 MiB
-=======
--- no boot source, no drive, no interface, no balloon, one hart and 128 MiB
->>>>>>> m
 abbrev pub default_config : Config
 default_config = record {
   boot_source = None;
   drives = [];
   interfaces = [];
-<<<<<<< 8bde38ab
   vsock = None;
   machine = record { vcpu_count = 1; mem_size_mib = 128; track_dirty_pages = false };
   balloon = None;
   mmds = None;
-=======
-  machine = record { vcpu_count = 1; mem_size_mib = 128; track_dirty_pages = false };
-  balloon = None;
->>>>>>> m
   configured = false;
 }
 
@@ -39,13 +30,8 @@ abbrev pub with_interval : StatisticsPatch → Option Balloon → Option Balloon
 with_interval patch balloon =
     option_map (λ (b : Balloon). record b { stats_polling_interval_s = patch.stats_polling_interval_s }) balloon
 
-<<<<<<< 8bde38ab
 -- What is allowed only before boot makes it configured: a boot source, a drive, an interface, a vsock device, a machine, a balloon,
 -- how the guest is given metadata, a start and a load. What was configured before is replaced. The metadata are no part of it.
-=======
--- What is allowed only before boot makes it configured: a boot source, a drive, an interface, a machine, a balloon, a start and
--- a load. What was configured before is replaced. The metadata are no part of it.
->>>>>>> m
 abbrev pub changed : Config → Change → Config
 changed config (change.BootSource source) = record config { boot_source = Some source; configured = true }
 changed config (change.PutDrive drive) = record config { drives = put_drive config.drives drive; configured = true }
@@ -53,18 +39,12 @@ changed config (change.PatchDrive patch) = record config { drives = patch_drive 
 changed config (change.PutInterface interface) =
     record config { interfaces = put_interface config.interfaces interface; configured = true }
 changed config (change.PatchInterface patch) = record config { interfaces = patch_interface config.interfaces patch }
-<<<<<<< 8bde38ab
 changed config (change.PutVsock vsock) = record config { vsock = Some vsock; configured = true }
-=======
->>>>>>> m
 changed config (change.MachineConfig machine) = record config { machine = machine; configured = true }
 changed config (change.PutBalloon balloon) = record config { balloon = Some balloon; configured = true }
 changed config (change.PatchBalloon patch) = record config { balloon = with_amount patch config.balloon }
 changed config (change.PatchStatistics patch) = record config { balloon = with_interval patch config.balloon }
-<<<<<<< 8bde38ab
 changed config (change.MmdsConfig mmds) = record config { mmds = Some mmds; configured = true }
-=======
->>>>>>> m
 changed config (change.PutMetadata body) = config
 changed config (change.PatchMetadata patch) = config
 changed config change.Start = record config { configured = true }
@@ -80,18 +60,12 @@ takes_memory (change.PutDrive drive) = true
 takes_memory (change.PatchDrive patch) = false
 takes_memory (change.PutInterface interface) = true
 takes_memory (change.PatchInterface patch) = false
-<<<<<<< 8bde38ab
 takes_memory (change.PutVsock vsock) = false
-=======
->>>>>>> m
 takes_memory (change.MachineConfig machine) = false
 takes_memory (change.PutBalloon balloon) = false
 takes_memory (change.PatchBalloon patch) = false
 takes_memory (change.PatchStatistics patch) = false
-<<<<<<< 8bde38ab
 takes_memory (change.MmdsConfig mmds) = false
-=======
->>>>>>> m
 takes_memory (change.PutMetadata body) = false
 takes_memory (change.PatchMetadata patch) = false
 takes_memory change.Start = false

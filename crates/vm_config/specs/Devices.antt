@@ -1,18 +1,11 @@
-<<<<<<< 8bde38ab
 -- The devices of a machine by their numbers: the root drive, the other drives, the interfaces, the vsock device and the balloon. Drives and
-=======
--- The devices of a machine by their numbers: the root drive, the other drives, the interfaces and the balloon. Drives and
->>>>>>> m
 -- interfaces are in the order of their first PUT.
 use Rattle.std.specs.Prelude.{ℕ, ◌+◌, List, [], ◌∷◌, ◌++◌, length, map, Option, Some, None, option_map}
 use Rattle.std.specs.List.{position}
 use Rattle.api_calls.specs.declared.balloon.Balloon.{Balloon}
 use Rattle.api_calls.specs.declared.call.Drive.{Drive}
 use Rattle.api_calls.specs.declared.interface.Interface.{Interface}
-<<<<<<< 8bde38ab
 use Rattle.api_calls.specs.declared.vsock.Vsock.{Vsock}
-=======
->>>>>>> m
 use Rattle.vm_config.specs.declared.config.Config.{Config}
 use Rattle.vm_config.specs.Drives.{in_order}
 use Rattle.vm_config.specs.Interfaces.{is_interface}
@@ -21,7 +14,6 @@ use Rattle.vm_config.specs.Interfaces.{is_interface}
 pub data Configured : Type 0 where
   of_drive : Drive → Configured
   of_interface : Interface → Configured
-<<<<<<< 8bde38ab
   of_vsock : Vsock → Configured
   of_balloon : Balloon → Configured
 
@@ -29,15 +21,10 @@ abbrev pub vsock_devices : Option Vsock → List Configured
 vsock_devices None = []
 vsock_devices (Some v) = of_vsock v ∷ []
 
-=======
-  of_balloon : Balloon → Configured
-
->>>>>>> m
 abbrev pub balloon_devices : Option Balloon → List Configured
 balloon_devices None = []
 balloon_devices (Some b) = of_balloon b ∷ []
 
-<<<<<<< 8bde38ab
 abbrev pub devices_in : List Drive → List Interface → Option Vsock → Option Balloon → List Configured
 devices_in drives interfaces vsock balloon =
     map of_drive (in_order drives) ++ (map of_interface interfaces ++ (vsock_devices vsock ++ balloon_devices balloon))
@@ -50,42 +37,20 @@ abbrev pub vsock_count : Option Vsock → ℕ
 vsock_count None = 0
 vsock_count (Some v) = 1
 
-=======
-abbrev pub devices_in : List Drive → List Interface → Option Balloon → List Configured
-devices_in drives interfaces balloon =
-    map of_drive (in_order drives) ++ (map of_interface interfaces ++ balloon_devices balloon)
-
-abbrev pub devices_of : Config → List Configured
-devices_of config = devices_in config.drives config.interfaces config.balloon
-
--- how many there are
->>>>>>> m
 abbrev pub balloon_count : Option Balloon → ℕ
 balloon_count None = 0
 balloon_count (Some b) = 1
 
-<<<<<<< 8bde38ab
 abbrev pub count_in : List Drive → List Interface → Option Vsock → Option Balloon → ℕ
 count_in drives interfaces vsock balloon = length drives + length interfaces + vsock_count vsock + balloon_count balloon
 
 abbrev pub device_count : Config → ℕ
 device_count config = count_in config.drives config.interfaces config.vsock config.balloon
-=======
-abbrev pub count_in : List Drive → List Interface → Option Balloon → ℕ
-count_in drives interfaces balloon = length drives + length interfaces + balloon_count balloon
-
-abbrev pub device_count : Config → ℕ
-device_count config = count_in config.drives config.interfaces config.balloon
->>>>>>> m
 
 -- the number of the device that the interface of this id is, and that of the balloon's
 abbrev pub interface_device : Config → List ℕ → Option ℕ
 interface_device config id = option_map (λ k. length config.drives + k) (position (is_interface id) config.interfaces)
 
 abbrev pub balloon_device : Config → Option ℕ
-<<<<<<< 8bde38ab
 balloon_device config =
     option_map (λ b. length config.drives + length config.interfaces + vsock_count config.vsock) config.balloon
-=======
-balloon_device config = option_map (λ b. length config.drives + length config.interfaces) config.balloon
->>>>>>> m

@@ -14,13 +14,10 @@ use Rattle.api_calls.specs.declared.call.Part.TheVariants as part
 use Rattle.api_calls.specs.declared.interface.Interface.{Interface}
 use Rattle.api_calls.specs.declared.limiter.BucketConfig.{BucketConfig}
 use Rattle.api_calls.specs.declared.limiter.Limiter.{Limiter}
-<<<<<<< 8bde38ab
 use Rattle.api_calls.specs.declared.mmds.MmdsConfig.{MmdsConfig}
 use Rattle.metadata_store.specs.declared.version.MetadataVersion.{MetadataVersion}
 use Rattle.metadata_store.specs.declared.version.MetadataVersion.TheVariants as versions
 use Rattle.api_calls.specs.declared.vsock.Vsock.{Vsock}
-=======
->>>>>>> m
 use Rattle.vm_config.specs.declared.config.Config.{Config}
 use Rattle.vm_config.specs.declared.config.Phase.{Phase}
 use Rattle.vm_config.specs.declared.config.Phase.TheVariants as phase
@@ -113,7 +110,6 @@ interface i = object (
 abbrev pub interfaces : List Interface → Data
 interfaces is = array (items_of (map interface is))
 
-<<<<<<< 8bde38ab
 abbrev pub given_vsock : Vsock → Data
 given_vsock v = object (
     member (codes "guest_cid") (number (unsigned v.guest_cid)) (member (codes "uds_path") (string v.uds_path) no_members))
@@ -122,8 +118,6 @@ abbrev pub vsock : Option Vsock → Data
 vsock None = null
 vsock (Some v) = given_vsock v
 
-=======
->>>>>>> m
 abbrev pub given_balloon : Balloon → Data
 given_balloon b = object (
     member (codes "amount_mib") (number (unsigned b.amount_mib))
@@ -135,7 +129,6 @@ abbrev pub balloon : Option Balloon → Data
 balloon None = null
 balloon (Some b) = given_balloon b
 
-<<<<<<< 8bde38ab
 abbrev pub version_text : MetadataVersion → List ℕ
 version_text versions.V1 = codes "V1"
 version_text versions.V2 = codes "V2"
@@ -153,8 +146,6 @@ abbrev pub mmds : Option MmdsConfig → Data
 mmds None = null
 mmds (Some m) = given_mmds m
 
-=======
->>>>>>> m
 -- GET /balloon/statistics, which is refused where there is no balloon
 abbrev pub statistics_by : Option Balloon → Option Statistics → Data
 statistics_by (Some b) (Some s) = statistics b.amount_mib s
@@ -168,15 +159,9 @@ vm_config c = object (
     (member (codes "boot-source") (boot_source c.boot_source)
     (member (codes "drives") (drives c.drives)
     (member (codes "machine-config") (machine c.machine)
-<<<<<<< 8bde38ab
     (member (codes "mmds-config") (mmds c.mmds)
     (member (codes "network-interfaces") (interfaces c.interfaces)
     (member (codes "vsock") (vsock c.vsock) no_members)))))))
-=======
-    (member (codes "mmds-config") null
-    (member (codes "network-interfaces") (interfaces c.interfaces)
-    (member (codes "vsock") null no_members)))))))
->>>>>>> m
 
 -- What there is to tell of a machine: its id, its phase, what is configured, its metadata, and what its balloon tells if it
 -- has one that runs.

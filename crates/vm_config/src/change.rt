@@ -1,11 +1,7 @@
 // What accepted calls ask for.
 use api_calls::{
     Balloon, BalloonPatch, BootSource, Drive, DrivePatch, Interface, InterfacePatch, MachineConfig,
-<<<<<<< 8bde38ab
     MmdsConfig, Part, SnapshotCreate, SnapshotLoad, StatisticsPatch, VmState, Vsock,
-=======
-    Part, SnapshotCreate, SnapshotLoad, StatisticsPatch, VmState,
->>>>>>> m
 };
 use metadata_store::Tree;
 
@@ -22,11 +18,8 @@ pub enum Change {
     PutInterface(Interface),
     /// What this gives is replaced of the interface of its id.
     PatchInterface(InterfacePatch),
-<<<<<<< 8bde38ab
     /// The vsock device is this one.
     PutVsock(Vsock),
-=======
->>>>>>> m
     /// The machine is this one.
     MachineConfig(MachineConfig),
     /// The balloon is this one.
@@ -35,11 +28,8 @@ pub enum Change {
     PatchBalloon(BalloonPatch),
     /// There are so many seconds between two reports of the balloon from now on.
     PatchStatistics(StatisticsPatch),
-<<<<<<< 8bde38ab
     /// The guest is given metadata in this way.
     MmdsConfig(MmdsConfig),
-=======
->>>>>>> m
     /// The metadata are this body.
     PutMetadata(Tree),
     /// This is merged into the metadata.

@@ -8,11 +8,7 @@ use crate::balloon::{with_amount, with_interval};
 use crate::change::Change;
 use crate::drives::Drives;
 use crate::interfaces::Interfaces;
-<<<<<<< 8bde38ab
 use api_calls::{Balloon, BootSource, Drive, Interface, MachineConfig, MmdsConfig, Vsock};
-=======
-use api_calls::{Balloon, BootSource, Drive, Interface, MachineConfig};
->>>>>>> m
 use std::alloc::{AllocError, Global};
 
 const DEFAULT_HARTS: u64 = 1;
@@ -33,16 +29,11 @@ pub struct Config {
     pub boot_source: Option<BootSource>,
     pub drives: Drives,
     pub interfaces: Interfaces,
-<<<<<<< 8bde38ab
     pub vsock: Option<Vsock>,
     pub machine: MachineConfig,
     pub balloon: Option<Balloon>,
     /// How the guest is given metadata.
     pub mmds: Option<MmdsConfig>,
-=======
-    pub machine: MachineConfig,
-    pub balloon: Option<Balloon>,
->>>>>>> m
     /// Whether any call that is allowed only before boot was accepted.
     pub configured: bool,
 }
@@ -56,20 +47,14 @@ impl Config {
             boot_source: None,
             drives: Drives::new(alloc),
             interfaces: Interfaces::new(alloc),
-<<<<<<< 8bde38ab
             vsock: None,
-=======
->>>>>>> m
             machine: MachineConfig {
                 vcpu_count: DEFAULT_HARTS,
                 mem_size_mib: DEFAULT_MIB,
                 track_dirty_pages: false,
             },
             balloon: None,
-<<<<<<< 8bde38ab
             mmds: None,
-=======
->>>>>>> m
             configured: false,
         }
     }
@@ -90,13 +75,10 @@ impl Config {
             Change::PatchDrive(patch) => self.drives.patch(patch),
             Change::PutInterface(interface) => return self.put_interface(interface),
             Change::PatchInterface(patch) => self.interfaces.patch(patch),
-<<<<<<< 8bde38ab
             Change::PutVsock(vsock) => {
                 self.vsock = Some(vsock);
                 self.configured = true;
             }
-=======
->>>>>>> m
             Change::MachineConfig(machine) => {
                 self.machine = machine;
                 self.configured = true;
@@ -107,13 +89,10 @@ impl Config {
             }
             Change::PatchBalloon(patch) => self.balloon = with_amount(patch, self.balloon),
             Change::PatchStatistics(patch) => self.balloon = with_interval(patch, self.balloon),
-<<<<<<< 8bde38ab
             Change::MmdsConfig(mmds) => {
                 self.mmds = Some(mmds);
                 self.configured = true;
             }
-=======
->>>>>>> m
             Change::Start => self.configured = true,
             Change::LoadSnapshot(_load) => self.configured = true,
             Change::PutMetadata(_body) => {}

@@ -1,15 +1,10 @@
 // The devices of a machine by their numbers.
-<<<<<<< 8bde38ab
 ghost use Rattle.std.specs.Prelude.{◌≡◌, ◌+◌, ◌≤◌, length};
-=======
-ghost use Rattle.std.specs.Prelude.{◌≡◌};
->>>>>>> m
 ghost use Rattle.std.specs.List.{position};
 ghost use Rattle.vm_config.specs.Devices as devices;
 ghost use Rattle.vm_config.specs.Interfaces.{is_interface};
 
 use crate::config::Config;
-<<<<<<< 8bde38ab
 use api_calls::{Balloon, Interface, Vsock};
 
 fn vsock_count(vsock: &Option<Vsock>) -> usize
@@ -21,9 +16,6 @@ fn vsock_count(vsock: &Option<Vsock>) -> usize
         None => 0,
     }
 }
-=======
-use api_calls::{Balloon, Interface};
->>>>>>> m
 
 fn balloon_count(balloon: &Option<Balloon>) -> usize
     ensures { result ≡ devices.balloon_count balloon.now }
@@ -43,7 +35,6 @@ fn place_of(interfaces: &[Interface], id: &str) -> Option<usize>
 }
 
 impl Config {
-<<<<<<< 8bde38ab
     /// How many devices a machine has by what is configured: one for each drive and each interface, the vsock device and the balloon.
     pub fn device_count(&self) -> u128
         ensures { result ≡ devices.device_count self.now }
@@ -54,15 +45,6 @@ impl Config {
             + interfaces
             + vsock_count(&self.vsock) as u128
             + balloon_count(&self.balloon) as u128
-=======
-    /// How many devices a machine has by what is configured: one for each drive and each interface, and the balloon.
-    pub fn device_count(&self) -> usize
-        ensures { result ≡ devices.device_count self.now }
-    {
-        let drives = self.drives.as_slice().len();
-        let interfaces = self.interfaces.as_slice().len();
-        drives + interfaces + balloon_count(&self.balloon)
->>>>>>> m
     }
 
     /// The number of the device that the interface of this id is.
@@ -73,7 +55,6 @@ impl Config {
         Some(self.drives.as_slice().len() + place)
     }
 
-<<<<<<< 8bde38ab
     // How many devices there are beside the balloon.
     fn others(&self) -> usize
         ensures { result ≡ length self.now.drives + length self.now.interfaces + devices.vsock_count self.now.vsock }
@@ -83,18 +64,12 @@ impl Config {
         drives + interfaces + vsock_count(&self.vsock)
     }
 
-=======
->>>>>>> m
     /// The number of the device that the balloon is.
     pub fn balloon_device(&self) -> Option<usize>
         ensures { result ≡ devices.balloon_device self.now }
     {
         match self.balloon {
-<<<<<<< 8bde38ab
             Some(_) => Some(self.others()),
-=======
-            Some(_) => Some(self.drives.as_slice().len() + self.interfaces.as_slice().len()),
->>>>>>> m
             None => None,
         }
     }

@@ -26,7 +26,4 @@ pub use interfaces::Interfaces;
 pub use law::{devices_are_numbered, ids_stay_apart};
 pub use named::{Named, NamedList};
 pub use statistics::Statistics;
-<<<<<<< 8bde38ab
 pub use values::version_text;
-=======
->>>>>>> m

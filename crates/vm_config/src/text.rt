@@ -5,11 +5,7 @@ ghost use Rattle.vm_config.specs.Texts as texts;
 
 use crate::config::{Config, Phase};
 use crate::statistics::{Statistics, statistics_value};
-<<<<<<< 8bde38ab
 use crate::values::{balloon, boot_source, drives, interfaces, machine, mmds, vsock};
-=======
-use crate::values::{balloon, boot_source, drives, interfaces, machine};
->>>>>>> m
 use api_calls::{Balloon, Part};
 use metadata_store::Store;
 use serde_json::{Value, json};
@@ -101,28 +97,17 @@ fn vm_config(alloc: Global, config: &Config) -> Result<Value, AllocError>
     let source = boot_source(alloc, &config.boot_source)?;
     let drives = drives(alloc, config.drives.as_slice())?;
     let interfaces = interfaces(alloc, config.interfaces.as_slice())?;
-<<<<<<< 8bde38ab
     let vsock = vsock(alloc, &config.vsock)?;
     let machine = machine(alloc, &config.machine)?;
     let balloon = balloon(alloc, &config.balloon)?;
     let mmds = mmds(alloc, &config.mmds)?;
-=======
-    let machine = machine(alloc, &config.machine)?;
-    let balloon = balloon(alloc, &config.balloon)?;
->>>>>>> m
     json!(in alloc; {
         "boot-source": source,
         "drives": drives,
         "machine-config": machine,
         "network-interfaces": interfaces,
-<<<<<<< 8bde38ab
         "vsock": vsock,
         "balloon": balloon,
         "mmds-config": mmds,
-=======
-        "vsock": null,
-        "balloon": balloon,
-        "mmds-config": null,
->>>>>>> m
     })
 }

@@ -3,14 +3,10 @@ ghost use Rattle.std.specs.Prelude.{◌≡◌, IfOk};
 ghost use Rattle.serde_json.specs.View.{view};
 ghost use Rattle.vm_config.specs.Texts as texts;
 
-<<<<<<< 8bde38ab
 use api_calls::{
     Balloon, BootSource, BucketConfig, Drive, Interface, Limiter, MachineConfig, MmdsConfig, Vsock,
 };
 use metadata_store::MetadataVersion;
-=======
-use api_calls::{Balloon, BootSource, BucketConfig, Drive, Interface, Limiter, MachineConfig};
->>>>>>> m
 use serde_json::{Value, json};
 use std::alloc::{AllocError, Global};
 use vm_types::TextList;
@@ -154,7 +150,6 @@ pub fn interfaces(alloc: Global, interfaces: &[Interface]) -> Result<Value, Allo
     Ok(Value::Array(told))
 }
 
-<<<<<<< 8bde38ab
 fn given_vsock(alloc: Global, vsock: &Vsock) -> Result<Value, AllocError>
     ensures { IfOk result (λ v. view v ≡ texts.given_vsock vsock.now) }
 {
@@ -173,8 +168,6 @@ pub fn vsock(alloc: Global, vsock: &Option<Vsock>) -> Result<Value, AllocError>
     }
 }
 
-=======
->>>>>>> m
 fn given_balloon(alloc: Global, balloon: &Balloon) -> Result<Value, AllocError>
     ensures { IfOk result (λ v. view v ≡ texts.given_balloon balloon.now) }
 {
@@ -193,7 +186,6 @@ pub fn balloon(alloc: Global, balloon: &Option<Balloon>) -> Result<Value, AllocE
         None => Ok(Value::Null),
     }
 }
-<<<<<<< 8bde38ab
 
 /// The version as a text.
 pub fn version_text(version: MetadataVersion) -> &'static str
@@ -235,5 +227,3 @@ pub fn mmds(alloc: Global, mmds: &Option<MmdsConfig>) -> Result<Value, AllocErro
         None => Ok(Value::Null),
     }
 }
-=======
->>>>>>> m

@@ -23,14 +23,8 @@ use Rattle.port_table.specs.declared.state.PortState.{PortState}
 use Rattle.guest_devices.specs.declared.change.DeviceChange.{DeviceChange}
 use Rattle.guest_devices.specs.declared.device.Device.{Device}
 use Rattle.guest_devices.specs.Devices.{DeviceLeft, FlatDevice, device_next, device_wants, left_reset}
-<<<<<<< 8bde38ab
 use Rattle.guest_devices.specs.Kept.{AreReset, device_want, devices_given, devices_left}
 use Rattle.guest_devices.specs.Kinds.{FitsChange}
-=======
-use Rattle.guest_devices.specs.Kept.{device_want, devices_given, devices_left, kept_reset}
-use Rattle.guest_devices.specs.Kinds.{FitsChange}
-use Rattle.guest_devices.proofs.Owed.{reset_left}
->>>>>>> m
 use Rattle.flat_guest.specs.declared.places.Layout.{Layout}
 use Rattle.flat_guest.specs.Places.{is_register_access, place_by, place_of, port_accessed}
 use Rattle.flat_guest.specs.Body.{Body, IsGuest, body_after, harts_after, lefts_after, lefts_told, reply_at, timer_after, want_of, wants, with_reply}
@@ -48,11 +42,7 @@ use Rattle.flat_guest.proofs.Marked.{none_marked}
 use Rattle.flat_guest.proofs.Stepping.{HasMade, HasStopped, entry_of, has_made_more, ran, step_is, stays}
 use Rattle.vm_world.specs.declared.step_error.StepError.{StepError}
 use Rattle.vm_world.specs.Refusing.{IsRefused, refusal_of}
-<<<<<<< 8bde38ab
 use Rattle.vm_world.specs.Worlds.{IsSameGuest, IsWorld, IsWorldReset, MakesEvent, Runs, WorldValue, body_of, pages_of, place_in, want_in}
-=======
-use Rattle.vm_world.specs.Worlds.{IsSameGuest, IsWorld, MakesEvent, Runs, WorldValue, body_of, pages_of, place_in, want_in, world_reset}
->>>>>>> m
 
 -- an op that acts on a page is an access
 port_page : (b : Bool) (port i : ℕ) → (let place : PlaceId = if b then PlaceId.Port port else PlaceId.Out in place) ≡ PlaceId.Page i → ⊥

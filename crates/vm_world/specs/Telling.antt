@@ -9,7 +9,4 @@ abbrev pub statistics_of : Device → Option Statistics
 statistics_of (device.Balloon b) = Some b.kind.own.statistics
 statistics_of (device.Block b) = None
 statistics_of (device.Net n) = None
-<<<<<<< 8bde38ab
 statistics_of (device.Vsock v) = None
-=======
->>>>>>> m

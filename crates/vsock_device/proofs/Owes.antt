@@ -17,10 +17,7 @@ use Rattle.dev_core.specs.Inside.{Any}
 use Rattle.dev_core.specs.Pieces.{Got, collect_all, past, put_all, readable, room, total, writable}
 use Rattle.dev_core.proofs.Asking.{collect_all_asks, put_all_asks}
 use Rattle.dev_core.proofs.Inside.{collect_all_keeps, filter_inside, past_inside, piece_inside, put_all_keeps}
-<<<<<<< 8bde38ab
 use Rattle.dev_core.proofs.Fuel.{some_of}
-=======
->>>>>>> m
 use Rattle.queue_device.specs.declared.lanes.Which.{Which}
 use Rattle.queue_device.specs.declared.lanes.Which.TheVariants.{First, Second, Third}
 use Rattle.queue_device.specs.Acting.{Acting, ActingKeeps}
@@ -49,10 +46,6 @@ use Rattle.vsock_device.specs.Lines.{lined}
 use Rattle.vsock_device.specs.Packets.{refusal}
 use Rattle.vsock_device.specs.Reset.{act_cut, call_cut, cut_by, resetting}
 use Rattle.vsock_device.specs.Vsock.{event_told, is_host_call, received, served_by, text_of, transport_reset, vsock}
-<<<<<<< 8bde38ab
-=======
-use Rattle.vsock_device.proofs.Pieces.{some_of}
->>>>>>> m
 
 -- at this port, in a guest of so many pages
 module _ (port pages : ℕ) where

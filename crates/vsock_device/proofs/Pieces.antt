@@ -1,64 +1,17 @@
 -- How the bytes of a packet go to the host, piece by piece.
-<<<<<<< 8bde38ab
 use Rattle.std.proofs.Common.{◌≡◌, ℕ, zero, suc, ◌==◌, ◌<◌, ◌≤◌, refl, sym, ◌∙◌, List, arith}
-=======
-use Rattle.std.proofs.Common.{◌≡◌, ℕ, zero, suc, ◌+◌, ◌-◌, ◌%◌, ◌^◌, ◌==◌, ◌<◌, ◌≤◌, refl, sym, ◌∙◌, Bool, true, false, if◌then◌else◌, List, [], ◌∷◌, arith}
->>>>>>> m
 use Rattle.vm_types.specs.declared.op.Op.TheVariants.{Read}
 use Rattle.vq_split.specs.declared.queue.Part.{Part}
 use Rattle.vq_split.specs.Chain.{read_bytes}
 use Rattle.dev_core.specs.Pieces.{past, place, room, total}
-<<<<<<< 8bde38ab
 use Rattle.dev_core.proofs.Totals.{room_few, total_past}
 use Rattle.dev_core.proofs.Fuel.{if_else, none_of, same_else, some_of}
-=======
->>>>>>> m
 use Rattle.queue_device.specs.Acting.{Acts}
 use Rattle.vsock_device.specs.declared.data.Vsock.{Vsock}
 use Rattle.vsock_device.specs.Guest.{forwarding, forwarding_all, piece_read, taken_in}
 
-<<<<<<< 8bde38ab
 -- ---- how many pieces at most doesn't matter where they suffice
 
-=======
--- ---- bytes that are left
-
-room_few : (parts : List Part) → room parts ≤ total parts
-room_few [] = omega arith
-room_few (part ∷ parts) = omega arith
-
-equal : (n m : ℕ) → (n == m) ≡ true → n ≡ m
-equal n m on = grind arith
-
-past_if : (n : ℕ) (part : Part) (parts : List Part) (test : Bool) → (part.len == n) ≡ test → n ≤ part.len
-    → total (if test then parts
-    else record { at = (part.at + n) % 2 ^ 64; len = part.len - n; writable = part.writable } ∷ parts) + n
-    ≡ part.len + total parts
-past_if n part parts true is short = let same = equal part.len n is in omega (arith, same)
-past_if n part parts false is short = omega (arith, short)
-
-total_past : (n : ℕ) (parts : List Part) → n ≤ room parts → total (past n parts) + n ≡ total parts
-total_past n [] short = omega (arith, short)
-total_past n (part ∷ parts) short = past_if n part parts (part.len == n) refl (omega (arith, short))
-
--- ---- how many pieces at most doesn't matter where they suffice
-
-pub some_of : (n : ℕ) → (n == 0) ≡ false → 0 < n
-some_of zero off = absurd (cc)
-some_of (suc n) off = omega arith
-
-pub none_of : (n : ℕ) → 0 < n → (n == 0) ≡ false
-none_of n some = grind arith
-
-if_else : {A : Type 0} (test : Bool) (x w : A) → test ≡ false → (if test then x else w) ≡ w
-if_else test x w is = rw is refl
-
-same_else : {A : Type 0} (test t : Bool) (x w v : A) → test ≡ t → (test ≡ false → w ≡ v)
-    → (if test then x else w) ≡ (if test then x else v)
-same_else test true x w v is same = rw is refl
-same_else test false x w v is same = rw is (same is)
-
->>>>>>> m
 most_done : (most host : ℕ) (parts : List Part) (e : Vsock) → room parts ≡ 0 → forwarding most host parts e ≡ taken_in e
 most_done zero host parts e none = refl
 most_done (suc most) host parts e none = rw none refl

@@ -267,13 +267,15 @@ after_small port low = tested (port == last_port) refl
     tested true is = omega arith
     tested false is = grind (arith, is, low)
 
+chosen_small : (has : Bool) (next port : ℕ) → next < 2 ^ 32 → port < 2 ^ 32 → (if has then next else port) < 2 ^ 32
+chosen_small true next port on here = on
+chosen_small false next port on here = here
+
 free_small : (most : ℕ) (cs : List Connection) (port : ℕ) → port < 2 ^ 32 → free_port most cs port < 2 ^ 32
 free_small zero cs port low = low
-free_small (suc most) cs port low = tested (has_port port cs)
-  where
-    tested : (has : Bool) → (if has then free_port most cs (port_after port) else port) < 2 ^ 32
-    tested true = free_small most cs (port_after port) (after_small port low)
-    tested false = low
+free_small (suc most) cs port low =
+    chosen_small (has_port port cs) (free_port most cs (port_after port)) port
+    (free_small most cs (port_after port) (after_small port low)) low
 
 held_of_small : (host : ℕ) (bytes : List ℕ) → IsSmallPiece bytes → IsSmallHeld (held_of host bytes)
 held_of_small host [] small = tt

@@ -7,7 +7,7 @@ use Rattle.std.proofs.Math.Nat.{pow-suc}
 use Rattle.std.proofs.lemmas.Bool.{and_parts, ltb-true}
 use Rattle.std.proofs.lemmas.Fmt.{length-decimal-le}
 use Rattle.std.proofs.lemmas.List.Elements.{All-append, All-cons, All-drop, All-nil, All-take}
-use Rattle.le_fields.specs.Fields.{IsByte, field_at, little_endian}
+use Rattle.le_fields.specs.Fields.{IsByte, bytes_of, field_at, little_endian}
 use Rattle.le_fields.proofs.Halves.{field_take}
 use Rattle.le_fields.proofs.Values.{all_bytes, long, value_below}
 use Rattle.script_words.specs.Numbers.{is_digit, value_of}
@@ -63,25 +63,63 @@ header_fits bytes all = record {
 both : (xs ys : List ℕ) → All IsByte xs → All IsByte ys → All IsByte (xs ++ ys)
 both xs ys a b = All-append IsByte xs ys a b
 
+-- the fields of a header from one of them on
+abbrev from_buf_alloc : Header → List ℕ
+from_buf_alloc h = bytes_of 4 h.buf_alloc ++ bytes_of 4 h.fwd_cnt
+
+abbrev from_flags : Header → List ℕ
+from_flags h = bytes_of 4 h.flags ++ from_buf_alloc h
+
+abbrev from_op : Header → List ℕ
+from_op h = bytes_of 2 h.op ++ from_flags h
+
+abbrev from_socket_type : Header → List ℕ
+from_socket_type h = bytes_of 2 h.socket_type ++ from_op h
+
+abbrev from_len : Header → List ℕ
+from_len h = bytes_of 4 h.len ++ from_socket_type h
+
+abbrev from_dst_port : Header → List ℕ
+from_dst_port h = bytes_of 4 h.dst_port ++ from_len h
+
+abbrev from_src_port : Header → List ℕ
+from_src_port h = bytes_of 4 h.src_port ++ from_dst_port h
+
+abbrev from_dst_cid : Header → List ℕ
+from_dst_cid h = bytes_of 8 h.dst_cid ++ from_src_port h
+
 pub header_all : (h : Header) → All IsByte (header_bytes h)
 header_all h =
-    both _ _ (all_bytes 8 h.src_cid) (both _ _ (all_bytes 8 h.dst_cid) (both _ _ (all_bytes 4 h.src_port)
-    (both _ _ (all_bytes 4 h.dst_port) (both _ _ (all_bytes 4 h.len) (both _ _ (all_bytes 2 h.socket_type)
-    (both _ _ (all_bytes 2 h.op) (both _ _ (all_bytes 4 h.flags) (both _ _ (all_bytes 4 h.buf_alloc) (all_bytes 4 h.fwd_cnt)))))))))
+    both (bytes_of 8 h.src_cid) (from_dst_cid h) (all_bytes 8 h.src_cid)
+    (both (bytes_of 8 h.dst_cid) (from_src_port h) (all_bytes 8 h.dst_cid)
+    (both (bytes_of 4 h.src_port) (from_dst_port h) (all_bytes 4 h.src_port)
+    (both (bytes_of 4 h.dst_port) (from_len h) (all_bytes 4 h.dst_port)
+    (both (bytes_of 4 h.len) (from_socket_type h) (all_bytes 4 h.len)
+    (both (bytes_of 2 h.socket_type) (from_op h) (all_bytes 2 h.socket_type)
+    (both (bytes_of 2 h.op) (from_flags h) (all_bytes 2 h.op)
+    (both (bytes_of 4 h.flags) (from_buf_alloc h) (all_bytes 4 h.flags)
+    (both (bytes_of 4 h.buf_alloc) (bytes_of 4 h.fwd_cnt) (all_bytes 4 h.buf_alloc) (all_bytes 4 h.fwd_cnt)))))))))
 
 joined : (n m : ℕ) (xs ys : List ℕ) → length xs ≡ n → length ys ≡ m → length (xs ++ ys) ≡ n + m
 joined n m xs ys a b = omega (arith, length-append xs ys, a, b)
 
 pub header_long : (h : Header) → length (header_bytes h) ≡ 44
 header_long h =
-    joined 8 36 _ _ (long 8 h.src_cid) (joined 8 28 _ _ (long 8 h.dst_cid) (joined 4 24 _ _ (long 4 h.src_port)
-    (joined 4 20 _ _ (long 4 h.dst_port) (joined 4 16 _ _ (long 4 h.len) (joined 2 14 _ _ (long 2 h.socket_type)
-    (joined 2 12 _ _ (long 2 h.op) (joined 4 8 _ _ (long 4 h.flags) (joined 4 4 _ _ (long 4 h.buf_alloc) (long 4 h.fwd_cnt)))))))))
+    joined 8 36 (bytes_of 8 h.src_cid) (from_dst_cid h) (long 8 h.src_cid)
+    (joined 8 28 (bytes_of 8 h.dst_cid) (from_src_port h) (long 8 h.dst_cid)
+    (joined 4 24 (bytes_of 4 h.src_port) (from_dst_port h) (long 4 h.src_port)
+    (joined 4 20 (bytes_of 4 h.dst_port) (from_len h) (long 4 h.dst_port)
+    (joined 4 16 (bytes_of 4 h.len) (from_socket_type h) (long 4 h.len)
+    (joined 2 14 (bytes_of 2 h.socket_type) (from_op h) (long 2 h.socket_type)
+    (joined 2 12 (bytes_of 2 h.op) (from_flags h) (long 2 h.op)
+    (joined 4 8 (bytes_of 4 h.flags) (from_buf_alloc h) (long 4 h.flags)
+    (joined 4 4 (bytes_of 4 h.buf_alloc) (bytes_of 4 h.fwd_cnt) (long 4 h.buf_alloc) (long 4 h.fwd_cnt)))))))))
 
 -- and what a packet carries behind it
 pub packet_all : (guest_cid : ℕ) (p : Packet) → IsSmallPacket p → All IsByte (packet_bytes guest_cid p)
 packet_all guest_cid p small =
-    both _ p.bytes (header_all (header_of_head guest_cid (length p.bytes) p.head)) small.bytes.1
+    let head = header_of_head guest_cid (length p.bytes) p.head in
+    both (header_bytes head) p.bytes (header_all head) small.bytes.1
 
 pub packet_short : (guest_cid : ℕ) (p : Packet) → IsSmallPacket p → length (packet_bytes guest_cid p) ≤ 108
 packet_short guest_cid p small =

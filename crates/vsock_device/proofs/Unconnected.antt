@@ -1,7 +1,7 @@
 -- Behind a Reset a vsock device has no connection, and no bytes of the host: also where that left out an act, since one that failed
 -- makes no connection.
-use Rattle.std.proofs.Common.{◌≡◌, ℕ, ◌-◌, ◌==◌, nat_le, nat_lt, ◌&&◌, refl, sym, ap, subst, Bool, true, false, not, if◌then◌else◌, is_some, Option, Some, None, List, [], ◌∷◌, length, take}
-use Rattle.std.proofs.lemmas.Bool.{and_from, and_parts}
+use Rattle.std.proofs.Common.{◌≡◌, ℕ, ◌-◌, ◌==◌, nat_le, nat_lt, ◌&&◌, refl, sym, ap, subst, Bool, true, false, not, if◌then◌else◌, is_some, Option, Some, None, List, [], ◌∷◌, length, take, arith}
+use Rattle.std.proofs.lemmas.Bool.{and_from, and_parts, eqb-true}
 use Rattle.vm_types.specs.declared.op.Op.{Op}
 use Rattle.vm_types.specs.declared.op.Op.TheVariants.{Out, Read}
 use Rattle.vm_types.specs.declared.op.OutOp.{OutOp}
@@ -68,7 +68,8 @@ test_of e is = and_from _ _ (ap (λ (cs : List Connection). length cs == 0) is.c
 
 no_length : (cs : List Connection) → (length cs == 0) ≡ true → cs ≡ []
 no_length [] is = refl
-no_length (c ∷ cs) is = absurd (cc)
+no_length (c ∷ cs) is =
+    let none = eqb-true (length (c ∷ cs)) 0 is in absurd (omega (arith, none))
 
 no_held : (held : Option HostBytes) → not (is_some held) ≡ true → held ≡ None
 no_held None is = refl

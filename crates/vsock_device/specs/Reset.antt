@@ -1,9 +1,5 @@
 -- A reset of the connections, which comes from outside, in whatever state the device is.
-<<<<<<< 8bde38ab
 use Rattle.std.specs.Prelude.{ℕ, ◌==◌, ◌&&◌, Bool, true, not, Option, Some, None, is_some, [], length}
-=======
-use Rattle.std.specs.Prelude.{Option, Some, None, true, []}
->>>>>>> m
 use Rattle.vm_types.specs.declared.op.Op.{Op}
 use Rattle.vm_types.specs.declared.op.Op.TheVariants.{Out, Read}
 use Rattle.vm_types.specs.declared.op.OutOp.{OutOp}
@@ -28,7 +24,6 @@ abbrev pub answer_reset : InHand → Option Head
 answer_reset (hand.Judged refusal) = refusal
 answer_reset in_hand = None
 
-<<<<<<< 8bde38ab
 -- the data that have these, and no connection
 abbrev pub unconnected : ℕ → ℕ → Option Head → InHand → Bool → Vsock
 unconnected guest_cid next_port answer in_hand reset_due = record {
@@ -48,19 +43,6 @@ is_unconnected e = (length e.connections == 0) && not (is_some e.held)
 -- All connections are gone, and what waited for the guest with them. It is to be told so by an event. The host isn't told.
 abbrev pub reset : Vsock → Vsock
 reset e = unconnected e.guest_cid e.next_port (answer_reset e.in_hand) (hand_reset e.in_hand) true
-=======
--- All connections are gone, and what waited for the guest with them. It is to be told so by an event. The host isn't told.
-abbrev pub reset : Vsock → Vsock
-reset e = record {
-  guest_cid = e.guest_cid;
-  next_port = e.next_port;
-  connections = [];
-  answer = answer_reset e.in_hand;
-  held = None;
-  in_hand = hand_reset e.in_hand;
-  reset_due = true;
-}
->>>>>>> m
 
 abbrev pub changed : VsockChange → Vsock → Vsock
 changed Reset e = reset e

@@ -9,10 +9,7 @@ use Rattle.device_trace.specs.Script.{Script}
 use Rattle.vq_split.specs.declared.queue.Part.{Part}
 use Rattle.vq_split.specs.Chain.{read_bytes}
 use Rattle.vq_split.specs.Kept.{are_inside}
-<<<<<<< 8bde38ab
 use Rattle.dev_core.specs.declared.collect.Collect.{Collect}
-=======
->>>>>>> m
 use Rattle.dev_core.specs.Collecting.{collect_left}
 use Rattle.dev_core.specs.Pieces.{past, place, room, share}
 use Rattle.queue_device.specs.declared.lanes.Which.TheVariants.{First, Second, Third}
@@ -82,13 +79,10 @@ are_parts pages parts = are_inside pages parts && nat_le (length parts) 256
 abbrev pub is_spilling : ℕ → Spill → Bool
 is_spilling pages spill = has_left pages (share spill.held spill.to) spill.to
 
-<<<<<<< 8bde38ab
 -- fewer bytes than a header has came, and there are more
 abbrev pub is_fetching : Collect → Bool
 is_fetching from = nat_lt (length from.held) 44 && nat_lt 0 (room from.from)
 
-=======
->>>>>>> m
 abbrev pub is_work : Work → ℕ → Stage → Bool
 is_work work.Rest pages stage.Rest = true
 is_work work.Answer pages (stage.Close host) = true

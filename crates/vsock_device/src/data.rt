@@ -5,11 +5,7 @@ ghost use Rattle.vsock_device.specs.Data.{answered, bytes_of_one, connected, del
 ghost use Rattle.vsock_device.specs.Data.{bytes_waiting, held_sent, held_without, waiting, with_connection};
 ghost use Rattle.vsock_device.specs.Guest.{failed, is_addressed, is_orphaned, one_forwarded, one_open};
 ghost use Rattle.vsock_device.specs.Connections.{connection_at};
-<<<<<<< 8bde38ab
 ghost use Rattle.vsock_device.specs.Reset.{answer_reset, cut_by, hand_reset, is_unconnected, reset, unconnected};
-=======
-ghost use Rattle.vsock_device.specs.Reset.{answer_reset, cut_by, hand_reset, reset};
->>>>>>> m
 
 use crate::connection::{Connection, Standing};
 use crate::connections::Connections;
@@ -138,7 +134,6 @@ impl Vsock {
         }
     }
 
-<<<<<<< 8bde38ab
     /// The data that have these, and no connection.
     pub fn unconnected(
         guest_cid: u64,
@@ -167,8 +162,6 @@ impl Vsock {
         self.connections.as_slice().len() == 0 && self.held.is_none()
     }
 
-=======
->>>>>>> m
     /// The same data.
     pub(crate) fn again(&self) -> Vsock
         ensures { result ≡ self.now }

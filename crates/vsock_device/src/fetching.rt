@@ -1,18 +1,11 @@
 // Reading a packet's header.
-<<<<<<< 8bde38ab
 ghost use Rattle.std.specs.Prelude.{◌≡◌, ◌<◌, ◌≤◌, if◌then◌else◌, length, true, Some, None};
-=======
-ghost use Rattle.std.specs.Prelude.{◌≡◌, ◌<◌, ◌≤◌, length, true};
->>>>>>> m
 ghost use Rattle.vm_types.specs.declared.op.Op.TheVariants.{Read};
 ghost use Rattle.vm_types.specs.Fits.{fits};
 ghost use Rattle.device_trace.specs.Doing.{led};
 ghost use Rattle.dev_core.specs.Collecting.{collect_left};
 ghost use Rattle.dev_core.specs.Pieces.{past, place, room};
-<<<<<<< 8bde38ab
 ghost use Rattle.vsock_device.specs.Work.{is_fetching};
-=======
->>>>>>> m
 
 use dev_core::Collect;
 use queue_device::collect_again;
@@ -47,7 +40,6 @@ impl Fetching {
         Fetching { inner: from }
     }
 
-<<<<<<< 8bde38ab
     /// These bytes came, where they are fewer than a header has and there are more.
     pub fn from_parts(from: Collect) -> Option<Fetching>
         ensures { result ≡ (if is_fetching from then Some from else None) }
@@ -61,10 +53,6 @@ impl Fetching {
 
     /// What came, and the parts that are left.
     pub fn inner(&self) -> &Collect
-=======
-    /// What came, and the parts that are left.
-    pub(crate) fn inner(&self) -> &Collect
->>>>>>> m
         ensures from { result.now ≡ self.now }
         ensures short { length result.now.held < 44 }
         ensures more { 0 < room result.now.from }

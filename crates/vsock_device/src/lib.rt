@@ -1,26 +1,15 @@
-<<<<<<< 8bde38ab
 //! A vsock device (VIRTIO 1.2, 5.10) as a kind of device on the rounds of `queue_device`.
 //!
 //! `Vsock` is what it keeps: at most 64 connections with their credit, what waits for the guest, and the chain in hand as far as
 //! it matters to a reset of the connections. `VsockKind` asks the vsock host what happened, and serves the chains of its three
 //! queues. `VsockDevice` is the actor, which is in a state that it may be in, and `NewVsock` what a machine starts one with.
-=======
-//! A vsock device (VIRTIO 1.2, 5.10) as a kind of device on the rounds of `queue_device`. No machine has one yet.
-//!
-//! `Vsock` is what it keeps: at most 64 connections with their credit, what waits for the guest, and the chain in hand as far as
-//! it matters to a reset of the connections. `VsockKind` asks the vsock host what happened, and serves the chains of its three
-//! queues.
->>>>>>> m
 #![tactic(auto)]
 
 mod calls;
 mod connection;
 mod connections;
 mod data;
-<<<<<<< 8bde38ab
 mod device;
-=======
->>>>>>> m
 mod fetching;
 mod guest;
 mod host;
@@ -28,24 +17,15 @@ mod kind;
 mod law;
 mod leading;
 mod line;
-<<<<<<< 8bde38ab
 mod new_vsock;
-=======
->>>>>>> m
 mod packet;
 
 pub use connection::{Connection, Standing};
 pub use connections::Connections;
 pub use data::{InHand, Vsock, VsockChange};
-<<<<<<< 8bde38ab
 pub use device::VsockDevice;
 pub use fetching::Fetching;
 pub use kind::{Stage, VsockKind};
 pub use law::{vsock_does, vsock_goes_on, vsock_kept, vsock_stays};
 pub use new_vsock::{NewVsock, configuration};
-=======
-pub use fetching::Fetching;
-pub use kind::{Stage, VsockKind};
-pub use law::{vsock_does, vsock_goes_on, vsock_kept, vsock_stays};
->>>>>>> m
 pub use packet::{Head, HostBytes, Packet};

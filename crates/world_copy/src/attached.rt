@@ -30,23 +30,13 @@ pub fn ports_kept(alloc: Global, ports: &[Port]) -> Result<Items<Counted<Saved<P
 }
 
 // The copy is reset, and the device isn't.
-<<<<<<< 8bde38ab
 fn device_kept(device: &Device) -> Listed<SavedDevice>
     ensures { IsReset device.now result }
-=======
-fn device_kept(device: &Device) -> Listed<Saved<Device>>
-    ensures kept { result ≡ kept_reset device.now }
-    ensures known { is_kept (kept_reset device.now) ≡ true }
->>>>>>> m
 {
     let mut kept = device.again();
     kept.reset();
     Listed {
-<<<<<<< 8bde38ab
         value: SavedDevice::new(kept),
-=======
-        value: Saved { value: kept },
->>>>>>> m
     }
 }
 
@@ -54,14 +44,8 @@ fn device_kept(device: &Device) -> Listed<Saved<Device>>
 pub fn devices_kept(
     alloc: Global,
     devices: &[Device],
-<<<<<<< 8bde38ab
 ) -> Result<Items<Listed<SavedDevice>>, AllocError>
     ensures { IfOk result (λ kept. AreReset devices.now kept) }
-=======
-) -> Result<Items<Listed<Saved<Device>>>, AllocError>
-    ensures kept { IfOk result (λ kept. kept ≡ map kept_reset devices.now) }
-    ensures known { IfOk result (λ kept. list_all is_kept kept ≡ true) }
->>>>>>> m
 {
     let mut kept = Items::new(alloc);
     for device in devices {
@@ -84,25 +68,14 @@ pub fn ports_of(alloc: Global, kept: Vec<Counted<Saved<Port>>>) -> Result<Vec<Po
 }
 
 /// The devices that a copy had.
-<<<<<<< 8bde38ab
 pub fn devices_of(alloc: Global, kept: Vec<Listed<SavedDevice>>) -> Result<Vec<Device>, AllocError>
-=======
-pub fn devices_of(
-    alloc: Global,
-    kept: Vec<Listed<Saved<Device>>>,
-) -> Result<Vec<Device>, AllocError>
->>>>>>> m
     ensures { IfOk result (λ devices. devices.items ≡ kept.items) }
 {
     let mut devices = Vec::new(alloc);
     let mut rest = kept.into_iter();
     while let Some(device) = rest.next() {
         let saved = device.value;
-<<<<<<< 8bde38ab
         devices.push(saved.into_device())?;
-=======
-        devices.push(saved.value)?;
->>>>>>> m
     }
     Ok(devices)
 }

@@ -4,13 +4,8 @@ ghost use Rattle.std.specs.Option.{option_map};
 ghost use Rattle.flat_snapshot.specs.Carried.{carried_config};
 ghost use Rattle.flat_snapshot.specs.Copies.{source_of};
 
-<<<<<<< 8bde38ab
 use api_calls::{BootSource, MachineConfig, MmdsConfig, Vsock};
 use snap_state::{Configuration, Filed, SavedList, taken};
-=======
-use api_calls::{BootSource, MachineConfig};
-use snap_state::{Configuration, SavedList};
->>>>>>> m
 use std::alloc::{AllocError, Global};
 use vm_config::{Config, Drives, Interfaces, Named, NamedList};
 use vm_types::TextList;
@@ -97,38 +92,25 @@ pub(crate) fn configuration_of(alloc: Global, config: &Config) -> Result<Configu
           boot_source = source_of config.now.boot_source;
           drives = config.now.drives;
           interfaces = config.now.interfaces;
-<<<<<<< 8bde38ab
           vsock = config.now.vsock;
           machine = config.now.machine;
           balloon = config.now.balloon;
           mmds = config.now.mmds;
-=======
-          machine = config.now.machine;
-          balloon = config.now.balloon;
->>>>>>> m
         }) }
 {
     let boot_source = source_of(alloc, &config.boot_source)?;
     let drives = list_of(alloc, &config.drives)?;
     let interfaces = list_of(alloc, &config.interfaces)?;
-<<<<<<< 8bde38ab
     let vsock = vsock_of(alloc, &config.vsock)?;
     let mmds = mmds_of(alloc, &config.mmds)?;
-=======
->>>>>>> m
     Ok(Configuration {
         boot_source,
         drives,
         interfaces,
-<<<<<<< 8bde38ab
         vsock,
         machine: config.machine,
         balloon: config.balloon,
         mmds,
-=======
-        machine: config.machine,
-        balloon: config.balloon,
->>>>>>> m
     })
 }
 
@@ -144,20 +126,14 @@ pub fn config_of(configuration: Configuration, track_dirty_pages: bool) -> Confi
         }),
         drives: Drives::from_vec(configuration.drives.items),
         interfaces: Interfaces::from_vec(configuration.interfaces.items),
-<<<<<<< 8bde38ab
         vsock: taken(configuration.vsock),
-=======
->>>>>>> m
         machine: MachineConfig {
             vcpu_count: configuration.machine.vcpu_count,
             mem_size_mib: configuration.machine.mem_size_mib,
             track_dirty_pages,
         },
         balloon: configuration.balloon,
-<<<<<<< 8bde38ab
         mmds: taken(configuration.mmds),
-=======
->>>>>>> m
         configured: true,
     }
 }

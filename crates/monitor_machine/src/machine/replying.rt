@@ -132,11 +132,7 @@ impl LiveMachine {
     }
 
     fn take_drives(&mut self, drives: Drives)
-<<<<<<< 8bde38ab
         requires fit { AreFitting drives self.old.config.interfaces self.old.config.vsock self.old.config.balloon }
-=======
-        requires fit { AreFitting drives self.old.config.interfaces self.old.config.balloon }
->>>>>>> m
         requires early { self.old.guest ≡ None }
         ensures { PlanLeaves (Plan.Drives drives) self.old self.new }
     {
@@ -144,11 +140,7 @@ impl LiveMachine {
     }
 
     fn take_interfaces(&mut self, interfaces: Interfaces)
-<<<<<<< 8bde38ab
         requires fit { AreLinked self.old.config.drives interfaces self.old.config.vsock self.old.config.balloon self.old.config.mmds }
-=======
-        requires fit { AreLinked self.old.config.drives interfaces self.old.config.balloon }
->>>>>>> m
         requires early { self.old.guest ≡ None }
         ensures { PlanLeaves (Plan.Interfaces interfaces) self.old self.new }
     {

@@ -1,11 +1,6 @@
 // What the API changes of a world, and the Reset that comes before a create.
-<<<<<<< 8bde38ab
 ghost use Rattle.std.specs.Prelude.{◌≡◌, ◌≤◌, length, slice_get};
 ghost use Rattle.guest_devices.specs.Kept.{AreReset, devices_left};
-=======
-ghost use Rattle.std.specs.Prelude.{◌≡◌, ◌≤◌, length, map, slice_get};
-ghost use Rattle.guest_devices.specs.Kept.{devices_left, kept_reset};
->>>>>>> m
 ghost use Rattle.guest_devices.specs.Kinds.{FitsChange};
 ghost use Rattle.flat_guest.specs.Body.{lefts_told};
 ghost use Rattle.flat_guest.specs.Changes.{board_shown, ports_shown, ports_with, reset_guest, told};

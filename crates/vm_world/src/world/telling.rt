@@ -16,10 +16,7 @@ fn statistics_of(device: &Device) -> Option<Statistics>
         Device::Balloon(balloon) => Some(balloon.state().kind.statistics()),
         Device::Block(_) => None,
         Device::Net(_) => None,
-<<<<<<< 8bde38ab
         Device::Vsock(_) => None,
-=======
->>>>>>> m
     }
 }
 

@@ -1,7 +1,5 @@
-use Rattle.std.proofs.Common.{◌*◌, ◌+◌, ◌∙◌, ℕ, ap, drop, take}
+use Rattle.std.proofs.Common.{arith}
 use Rattle.diff_convert.proofs.converting.pages_of.Goals as goal
 
-pub returns-in-Ok-clause-bytes : goal.returns-in-Ok-clause-bytes
-returns-in-Ok-clause-bytes g c = λ told given there.
-    c.in-Ok.ensures.bytes told given there
-    ∙ ap (λ (n : ℕ). take (4096 * c.args.start.now.header.stored) (drop (64 + n) given)) c.table_size.ensures.size
+pub returns-in-Ok-clause-few : goal.returns-in-Ok-clause-few
+returns-in-Ok-clause-few g c = omega (arith, c.in-Ok.ensures.count, c.ranges.count)

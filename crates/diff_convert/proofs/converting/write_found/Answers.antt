@@ -19,13 +19,13 @@ returns-in-Ok-write-clause-leaves g c = λ told from d found full is.
           (c.in-Ok-write.ensures.done told (pages_of d) plan.pages_are);
     }
 
-pub returns-in-Err-write-clause-leaves : goal.returns-in-Err-write-clause-leaves
-returns-in-Err-write-clause-leaves g c = λ told from d found full is.
+pub returns-clause-leaves : goal.returns-clause-leaves
+returns-clause-leaves g c = λ told from d found full is.
     let to = c.args.to.now in
     let plan = subst (λ (x : DiffCopy). IsPlan c.in-Ok.plan (flat_of c.args.pages.now.pages).bytes x) (sym is) (c.in-Ok.ensures.plans full) in
     inr (record {
       diff = d;
       found = found;
       runs = same_part to _ _ _ _ (ap (λ (l : List ℕ). saving_calls to l (pages_of d)) plan.head_is)
-          (c.in-Err-write.ensures.begun told (pages_of d) plan.pages_are);
+          (c.in-Err.ensures.begun told (pages_of d) plan.pages_are);
     })

@@ -1,4 +1,4 @@
-use Rattle.std.proofs.Common.{◌*◌, ◌∙◌, ℕ, ap, length, List, refl, arith}
+use Rattle.std.proofs.Common.{◌≡◌, ◌*◌, ◌∙◌, ℕ, ap, length, List, refl, arith}
 use Rattle.file_format.specs.declared.version.Version.{Version}
 use Rattle.guest_pages.specs.Pages.{flat_of}
 use Rattle.snap_diff.specs.declared.run.Run.{Run}
@@ -16,8 +16,8 @@ overflow_cast-count c =
     let size = c.len-size.ensures.bytes ∙ ap (λ (n : ℕ). 4096 * n) (c.len-size.ensures.pages ∙ c.requires.pages) in
     let full = ap (λ (v : Version). are_stored v h.stored bytes) c.requires.version in
     let few =
-    few_made h runs bytes c.requires.whole size full c.requires.version _ _ refl refl c.in_ok-runs_anew.stored.items c.in_ok-runs_anew.runs
-    c.in_ok-runs_anew.ensures.runs c.in_ok-runs_anew.ensures.stored in
+    few_made h runs bytes c.requires.whole size full c.requires.version _ _ refl refl c.in_ok-runs.stored.items c.in_ok-runs.runs
+    c.in_ok-runs.ensures.runs c.in_ok-runs.ensures.stored in
     omega (arith, few, c.requires.pages, c.requires.few, ap (λ (l : List Run). length l) c.as_slice-table.ensures)
 
 pub overflow_cast-filled : goal.overflow_cast-filled
@@ -28,9 +28,9 @@ overflow_cast-filled c =
     let size = c.len-size.ensures.bytes ∙ ap (λ (n : ℕ). 4096 * n) (c.len-size.ensures.pages ∙ c.requires.pages) in
     let full = ap (λ (v : Version). are_stored v h.stored bytes) c.requires.version in
     let few =
-    few_some h runs bytes c.requires.whole size full c.requires.version _ _ refl refl c.in_ok-runs_anew.stored.items c.in_ok-runs_anew.runs
-    c.in_ok-runs_anew.ensures.runs c.in_ok-runs_anew.ensures.stored in
-    omega (arith, few, c.requires.pages, c.requires.few, c.len-filled.ensures)
+    few_some h runs bytes c.requires.whole size full c.requires.version _ _ refl refl c.in_ok-runs.stored.items c.in_ok-runs.runs
+    c.in_ok-runs.ensures.runs c.in_ok-runs.ensures.stored in
+    omega (arith, few, c.requires.pages, c.requires.few, c.len-filled.ensures, c.in_ok-runs.stored.ok.0)
 
 pub encode_behind_gate-requires-clause-names : goal.encode_behind_gate-requires-clause-names
 encode_behind_gate-requires-clause-names c = c.requires.whole.head.names
@@ -42,8 +42,10 @@ encode_behind_gate-requires-clause-table c =
     let bytes = (flat_of c.args.pages.now.pages).bytes in
     let size = c.len-size.ensures.bytes ∙ ap (λ (n : ℕ). 4096 * n) (c.len-size.ensures.pages ∙ c.requires.pages) in
     let full = ap (λ (v : Version). are_stored v h.stored bytes) c.requires.version in
-    table_now h runs bytes c.requires.whole size full c.requires.version _ _ refl refl c.in_ok-runs_anew.stored.items c.in_ok-runs_anew.runs
-    c.in_ok-runs_anew.ensures.runs c.in_ok-runs_anew.ensures.stored c.as_slice-table.result.now _ _ c.as_slice-table.ensures c.len-filled.ensures
+    let many : c.len-filled.result ≡ length c.in_ok-runs.stored.items = c.len-filled.ensures ∙ c.in_ok-runs.stored.ok.0 in
+    table_now h runs bytes c.requires.whole size full c.requires.version _ _ refl refl c.in_ok-runs.stored.items c.in_ok-runs.runs
+    c.in_ok-runs.ensures.runs c.in_ok-runs.ensures.stored c.as_slice-table.result.now (length c.as_slice-table.result.now) c.len-filled.result
+    c.as_slice-table.ensures many
 
 pub returns-clause-plans : goal.returns-clause-plans
 returns-clause-plans c = λ full.
@@ -51,12 +53,13 @@ returns-clause-plans c = λ full.
     let runs = c.args.start.now.runs in
     let bytes = (flat_of c.args.pages.now.pages).bytes in
     let size = c.len-size.ensures.bytes ∙ ap (λ (n : ℕ). 4096 * n) (c.len-size.ensures.pages ∙ c.requires.pages) in
+    let many : c.len-filled.result ≡ length c.in_ok-runs.stored.items = c.len-filled.ensures ∙ c.in_ok-runs.stored.ok.0 in
     record {
-      head_is = head_now h runs bytes c.requires.whole size full c.requires.version _ _ refl refl c.in_ok-runs_anew.stored.items c.in_ok-runs_anew.runs
-          c.in_ok-runs_anew.ensures.runs c.in_ok-runs_anew.ensures.stored c.as_slice-table.result.now _ _ c.in_ok-head.head.items
-          c.as_slice-table.ensures refl c.len-filled.ensures c.in_ok-head.ensures.bytes;
-      pages_are = pages_now h runs bytes c.requires.whole size full c.requires.version _ _ refl refl c.in_ok-runs_anew.stored.items c.in_ok-runs_anew.runs
-          c.in_ok-runs_anew.ensures.runs c.in_ok-runs_anew.ensures.stored;
+      head_is = head_now h runs bytes c.requires.whole size full c.requires.version _ _ refl refl c.in_ok-runs.stored.items c.in_ok-runs.runs
+          c.in_ok-runs.ensures.runs c.in_ok-runs.ensures.stored c.as_slice-table.result.now _ c.len-filled.result c.in_ok-head.head.items
+          c.as_slice-table.ensures refl many c.in_ok-head.ensures.bytes;
+      pages_are = pages_now h runs bytes c.requires.whole size full c.requires.version _ _ refl refl c.in_ok-runs.stored.items c.in_ok-runs.runs
+          c.in_ok-runs.ensures.runs c.in_ok-runs.ensures.stored;
     }
 
 pub returns-clause-there : goal.returns-clause-there
@@ -66,6 +69,6 @@ returns-clause-there c =
     let bytes = (flat_of c.args.pages.now.pages).bytes in
     let size = c.len-size.ensures.bytes ∙ ap (λ (n : ℕ). 4096 * n) (c.len-size.ensures.pages ∙ c.requires.pages) in
     let full = ap (λ (v : Version). are_stored v h.stored bytes) c.requires.version in
-    ap (are_there c.in_ok-runs_anew.stored.items) c.requires.pages
-    ∙ there_now h runs bytes c.requires.whole size full c.requires.version _ _ refl refl c.in_ok-runs_anew.stored.items c.in_ok-runs_anew.runs
-    c.in_ok-runs_anew.ensures.runs c.in_ok-runs_anew.ensures.stored
+    ap (are_there c.in_ok-runs.stored.items) c.requires.pages
+    ∙ there_now h runs bytes c.requires.whole size full c.requires.version _ _ refl refl c.in_ok-runs.stored.items c.in_ok-runs.runs
+    c.in_ok-runs.ensures.runs c.in_ok-runs.ensures.stored

@@ -1,8 +1,4 @@
 use Rattle.guest_devices.proofs.Follows.{at_start, continues_wanted, did_leads, left_wants, one_left, reset_leads, told_leads, wants_continues, wants_left, wants_only}
-<<<<<<< 8bde38ab
-=======
-use Rattle.guest_devices.proofs.Owed.{reset_kept, reset_left}
->>>>>>> m
 use Rattle.guest_devices.proofs.law.devices_follow.Goals as goal
 
 pub returns-clause-begins : goal.returns-clause-begins

@@ -1,8 +1,5 @@
 use Rattle.guest_devices.proofs.Soundness.{at_sound, copied, did_sound, new_sound, reset_sound, resumed_sound, some_want, told_sound, want_host, want_inside, want_own}
-<<<<<<< 8bde38ab
 use Rattle.guest_devices.proofs.Saved.{flat_saved}
-=======
->>>>>>> m
 use Rattle.guest_devices.proofs.law.sound_devices.Goals as goal
 
 pub returns-clause-begins : goal.returns-clause-begins

@@ -1,7 +1,3 @@
-<<<<<<< 8bde38ab
-=======
-use Rattle.std.proofs.Common.{rules}
->>>>>>> m
 use Rattle.guest_devices.proofs.port.port_at_start.Goals as goal
 
 pub returns-in-Block-clause-fits : goal.returns-in-Block-clause-fits
@@ -10,11 +6,8 @@ returns-in-Block-clause-fits c = c.block_port.ensures.fits c.args.what.now c.in-
 pub returns-in-Net-clause-fits : goal.returns-in-Net-clause-fits
 returns-in-Net-clause-fits c = c.net_port.ensures.fits c.args.what.now c.in-Net.is
 
-<<<<<<< 8bde38ab
 pub returns-in-Vsock-clause-fits : goal.returns-in-Vsock-clause-fits
 returns-in-Vsock-clause-fits c = c.vsock_port.ensures.fits c.args.what.now c.in-Vsock.is
 
-=======
->>>>>>> m
 pub returns-in-Balloon-clause-fits : goal.returns-in-Balloon-clause-fits
 returns-in-Balloon-clause-fits c = c.balloon_port.ensures.fits c.args.what.now c.in-Balloon.is

@@ -11,7 +11,6 @@ use Rattle.snap_writer.proofs.ByKind.{are_chosen}
 use Rattle.monitor_plans.proofs.Headings.{are_pages, as_many_in, diff_head_is, few_numbers, few_of, is_diff, kinds_there, memory_whole, numbers_are, numbers_rise, saved_are, table_is}
 use Rattle.monitor_plans.proofs.heading.diff_heading.Goals as goal
 
-<<<<<<< 8bde38ab
 pub runs_in-requires-clause-there : goal.runs_in-requires-clause-there
 runs_in-requires-clause-there c =
     let marked : c.in-Ok.numbers.items ≡ marked_from 0 (marks_of c.pages-memory.result.now.pages) = c.in-Ok.ensures in
@@ -48,20 +47,11 @@ encode_behind_gate-requires-clause-table c =
     let ns = c.in-Ok.numbers.items in
     let memory : List PageValue = c.pages-memory.result.now.pages in
     let long : length memory ≡ c.args.pages = ap (λ (ps : List PageValue). length ps) c.pages-memory.ensures.pages ∙ sym c.requires.pages in
-    table_is c.args.parent c.args.identity c.args.pages _ _ ns c.in-Ok-runs_in.stored.items (kinds_in memory ns) c.as_slice-table.result.now
+    let many : c.len-filled.result ≡ length c.in-Ok-runs_in.stored.items = omega (arith, c.len-filled.ensures, c.in-Ok-runs_in.stored.ok.0) in
+    table_is c.args.parent c.args.identity c.args.pages (length c.as_slice-table.result.now) c.len-filled.result ns c.in-Ok-runs_in.stored.items (kinds_in memory ns) c.as_slice-table.result.now
     (c.as_slice-table.ensures ∙ c.in-Ok-runs_in.ensures.runs ∙ ap (λ (l : List ℕ). runs_of l (kinds_in memory l)) c.deref.ensures.value)
     (c.in-Ok-runs_in.ensures.stored ∙ ap (λ (l : List ℕ). chosen l (kinds_in memory l)) c.deref.ensures.value)
-    c.len-filled.ensures (as_many_in memory ns) (numbers_rise memory c.args.pages ns long c.in-Ok.ensures)
-=======
-pub encode_behind_gate-requires-clause-header : goal.encode_behind_gate-requires-clause-header
-encode_behind_gate-requires-clause-header c = is_diff c.args.parent c.args.identity c.requires.numbered c.requires.parent
-
-pub encode_behind_gate-requires-clause-rise : goal.encode_behind_gate-requires-clause-rise
-encode_behind_gate-requires-clause-rise c =
-    let marked : c.in-Ok.numbers.items ≡ marked_from 0 (marks_of c.args.guest.now.pages) =
-    c.in-Ok.ensures ∙ ap (λ (ps : List PageValue). marked_from 0 (marks_of ps)) c.pages.ensures.pages in
-    numbers_rise c.args.guest.now.pages c.args.pages c.deref.result.now (sym c.requires.pages) (c.deref.ensures.value ∙ marked)
->>>>>>> m
+    many (as_many_in memory ns) (numbers_rise memory c.args.pages ns long c.in-Ok.ensures)
 
 pub returns : goal.returns
 returns c =
@@ -74,20 +64,14 @@ returns c =
     c.as_slice-table.ensures ∙ c.in-Ok-runs_in.ensures.runs ∙ ap (λ (l : List ℕ). runs_of l (kinds_in memory l)) c.deref.ensures.value in
     let some_is : c.in-Ok-runs_in.stored.items ≡ chosen ns (kinds_in memory ns) =
     c.in-Ok-runs_in.ensures.stored ∙ ap (λ (l : List ℕ). chosen l (kinds_in memory l)) c.deref.ensures.value in
+    let many : c.len-filled.result ≡ length c.in-Ok-runs_in.stored.items = omega (arith, c.len-filled.ensures, c.in-Ok-runs_in.stored.ok.0) in
     let marked : ns ≡ marked_from 0 (marks_of w.pages) = c.in-Ok.ensures ∙ ap (λ (ps : List PageValue). marked_from 0 (marks_of ps)) here in
     record {
       there = ap (λ (l : List ℕ). are_there l (length w.pages)) some_is ∙ are_chosen (length w.pages) ns (kinds_in memory ns) (are_pages w.pages ns marked);
       head_is = λ g is.
-<<<<<<< 8bde38ab
-          diff_head_is c.args.parent c.args.identity c.args.pages _ _ ns c.in-Ok-encode_behind_gate.start.items c.from_vec.result
+          diff_head_is c.args.parent c.args.identity c.args.pages _ c.len-filled.result ns c.in-Ok-encode_behind_gate.start.items c.from_vec.result
           (kinds_in memory ns) c.as_slice-table.result.now g (numbers_are w g c.args.pages ns is long marked) (kinds_there w g memory ns is here) runs_is refl
-          (c.len-filled.ensures ∙ ap (λ (l : List ℕ). length l) some_is ∙ sym (stored_chosen ns (kinds_in memory ns) (as_many_in memory ns)) ∙ ap stored_in (sym runs_is))
-=======
-          diff_head_is c.args.parent c.args.identity c.args.pages _ c.deref.result.now
-          c.in-Ok-encode_behind_gate.start.items c.from_vec.result g
-          (c.deref.ensures.value ∙ numbers_are c.args.guest.now g c.args.pages c.in-Ok.numbers.items is long marked)
-          (omega (arith, c.len.ensures, ap length c.deref.ensures.value))
->>>>>>> m
+          (many ∙ ap (λ (l : List ℕ). length l) some_is ∙ sym (stored_chosen ns (kinds_in memory ns) (as_many_in memory ns)) ∙ ap stored_in (sym runs_is))
           c.in-Ok-encode_behind_gate.ensures.bytes c.from_vec.ensures;
       pages_are = λ g is.
           ap (λ (l : List ℕ). pages_at l g.memory.bytes) some_is

@@ -1,11 +1,7 @@
 use Rattle.std.proofs.Common.{◌∙◌, ap, refl}
 use Rattle.flat_machine.proofs.Taken.{carried_taken}
 use Rattle.flat_snapshot.specs.Carried.{carried_config}
-<<<<<<< 8bde38ab
 use Rattle.snap_restore.specs.Finding.{snapshot_of}
-=======
-use Rattle.snap_finding.specs.Finding.{snapshot_of}
->>>>>>> m
 use Rattle.monitor_plans.proofs.Standing.{load_ready, some_number}
 use Rattle.monitor_plans.proofs.restoring.restore.Goals as goal
 

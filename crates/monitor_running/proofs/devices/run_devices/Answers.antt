@@ -1,12 +1,6 @@
 use Rattle.std.proofs.Common.{arith}
-<<<<<<< 8bde38ab
 use Rattle.vm_outside.proofs.Passing.{lasts_more, lasts_same}
 use Rattle.monitor_running.proofs.Acting.{acted_reserved}
-=======
-use Rattle.monitor_running.proofs.Acting.{acted_reserved}
-use Rattle.monitor_running.proofs.Disks.{lasts_more}
-use Rattle.monitor_running.proofs.Lifts.{lasts_same}
->>>>>>> m
 use Rattle.monitor_running.proofs.devices.run_devices.Goals as goal
 
 pub loop-number-preserved : goal.loop-number-preserved

@@ -2,11 +2,7 @@ use Rattle.std.proofs.Common.{refl}
 use Rattle.vm_outside.proofs.Passing.{lasts_more, lasts_same}
 use Rattle.monitor_running.specs.Objects.{known_with}
 use Rattle.monitor_serving.specs.Views.{Hosts, hosts, view}
-<<<<<<< 8bde38ab
 use Rattle.monitor_serving.proofs.Turns.{all_last_on, all_last_self, goes_on, open_goes, served_on}
-=======
-use Rattle.monitor_serving.proofs.Turns.{all_last_on, all_last_self, goes_on, lasts_on, lasts_self, open_goes, served_on}
->>>>>>> m
 use Rattle.monitor_serving.proofs.Waiting.{stays_on}
 use Rattle.monitor_serving.proofs.connection.serve_turns.Goals as goal
 

@@ -1,5 +1,4 @@
 -- The byte of its kind is put at the end, and what is kept of it.
-<<<<<<< 8bde38ab
 use Rattle.std.proofs.Common.{◌≡◌, subst, true}
 use Rattle.guest_devices.specs.declared.device.Device.{Device}
 use Rattle.guest_devices.specs.Kept.{is_saved}
@@ -10,11 +9,6 @@ use Rattle.snap_devices.proofs.device.write_device.Goals as goal
 pub write_vsock-requires : goal.write_vsock-requires
 write_vsock-requires c = subst (λ (d : Device). is_saved d ≡ true) c.in-Vsock.is c.requires
 
-=======
-use Rattle.snap_devices.proofs.Writing.{balloon_device, block_device, net_device}
-use Rattle.snap_devices.proofs.device.write_device.Goals as goal
-
->>>>>>> m
 pub returns-in_ok-write_block-in-Block-clause-fits : goal.returns-in_ok-write_block-in-Block-clause-fits
 returns-in_ok-write_block-in-Block-clause-fits c =
     (block_device c.args.it.now c.in-Block.block c.args.out.now.items c.write.new.out.items c.write_block.new.out.items c.in-Block.is
@@ -46,7 +40,6 @@ returns-in_ok-write_balloon-in-Balloon-clause-bytes c =
     (balloon_device c.args.it.now c.in-Balloon.balloon c.args.out.now.items c.write-in-Balloon.new.out.items
     c.write_balloon.new.out.items c.in-Balloon.is c.in_ok-write_balloon-in-Balloon.ensures.fits
     c.in_ok-write-in-Balloon.ensures.bytes c.in_ok-write_balloon-in-Balloon.ensures.bytes).bytes
-<<<<<<< 8bde38ab
 
 pub returns-in_ok-write_vsock-in-Vsock-clause-fits : goal.returns-in_ok-write_vsock-in-Vsock-clause-fits
 returns-in_ok-write_vsock-in-Vsock-clause-fits c =
@@ -59,5 +52,3 @@ returns-in_ok-write_vsock-in-Vsock-clause-bytes c =
     (vsock_device c.args.it.now c.in-Vsock.vsock c.args.out.now.items c.write-in-Vsock.new.out.items
     c.write_vsock.new.out.items c.in-Vsock.is c.in_ok-write_vsock-in-Vsock.ensures.fits
     c.in_ok-write-in-Vsock.ensures.bytes c.in_ok-write_vsock-in-Vsock.ensures.bytes).bytes
-=======
->>>>>>> m

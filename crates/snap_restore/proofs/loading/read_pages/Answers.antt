@@ -25,11 +25,7 @@ loop-done-preserved g c =
       marks = c.load.ensures.marks ∙ so_far.marks;
       still = λ t. c.read_at.ensures.called.lasts.still (so_far.still t);
       kept = c.in-Ok.ensures.called.kept ∙ so_far.kept;
-<<<<<<< 8bde38ab
       same = λ t. same_more _ _ _ (so_far.same t) (c.read_at.ensures.same (so_far.still t));
-=======
-      same = λ t. same_then _ _ _ (so_far.same t) (c.read_at.ensures.same (so_far.still t));
->>>>>>> m
       read = λ t content there.
           read_more _ content (flat_of c.args.pages.now.pages).bytes buf block (take count (buf ++ drop count block)) c.args.at (c.args.at + done) done count (flat_of c.loop-done.pages.pages) (flat_of c.load.new.self.pages)
           (ap (λ (m : Saved). get m c.args.name.now) (so_far.same t).saved ∙ there)

@@ -1,29 +1,17 @@
 use Rattle.std.proofs.Common.{sym, arith, ◌∙◌}
-<<<<<<< 8bde38ab
 use Rattle.snap_state.proofs.HasDevices.{balloon_due, drive_due, interface_due, none_due, vsock_due}
-=======
-use Rattle.snap_state.proofs.HasDevices.{balloon_due, drive_due, interface_due, none_due}
->>>>>>> m
 use Rattle.snap_state.proofs.kinds.kind_due.Goals as goal
 
 pub returns-then-number-drives : goal.returns-then-number-drives
 returns-then-number-drives c =
     let own = c.args.configuration.now in
-<<<<<<< 8bde38ab
     sym (drive_due own.drives own.interfaces own.vsock own.balloon c.args.number
-=======
-    sym (drive_due own.drives own.interfaces own.balloon c.args.number
->>>>>>> m
     (omega (arith, c.if-number-drives.true, c.count-drives.ensures)))
 
 pub returns-then-behind-interfaces : goal.returns-then-behind-interfaces
 returns-then-behind-interfaces c =
     let own = c.args.configuration.now in
-<<<<<<< 8bde38ab
     sym (interface_due own.drives own.interfaces own.vsock own.balloon c.args.number
-=======
-    sym (interface_due own.drives own.interfaces own.balloon c.args.number
->>>>>>> m
     (omega (arith, c.if-number-drives.false, c.count-drives.ensures))
     (omega (
       arith,
@@ -33,7 +21,6 @@ returns-then-behind-interfaces c =
       c.count-interfaces.ensures,
     )))
 
-<<<<<<< 8bde38ab
 pub returns-then-last-sockets : goal.returns-then-last-sockets
 returns-then-last-sockets c =
     let own = c.args.configuration.now in
@@ -69,42 +56,19 @@ returns-then-last-sockets-2 c =
       c.count-drives.ensures,
       c.count-interfaces.ensures,
       c.vsock_count-sockets.ensures,
-=======
-pub returns-then-behind-interfaces-2 : goal.returns-then-behind-interfaces-2
-returns-then-behind-interfaces-2 c =
-    let own = c.args.configuration.now in
-    c.balloon_kind.ensures
-    ∙ sym (balloon_due own.drives own.interfaces own.balloon c.args.number
-    (omega (
-      arith,
-      c.if-number-drives.false,
-      c.if-behind-interfaces-2.true,
-      c.count-drives.ensures,
-      c.count-interfaces.ensures,
->>>>>>> m
     )))
 
 pub returns : goal.returns
 returns c =
     let own = c.args.configuration.now in
-<<<<<<< 8bde38ab
     sym (none_due own.drives own.interfaces own.vsock own.balloon c.args.number
-=======
-    sym (none_due own.drives own.interfaces own.balloon c.args.number
->>>>>>> m
     (omega (
       arith,
       c.if-number-drives.false,
       c.if-behind-interfaces.false,
-<<<<<<< 8bde38ab
       c.if-last-sockets.false,
       c.if-last-sockets-2.false,
       c.count-drives.ensures,
       c.count-interfaces.ensures,
       c.vsock_count-sockets.ensures,
-=======
-      c.if-behind-interfaces-2.false,
-      c.count-drives.ensures,
-      c.count-interfaces.ensures,
->>>>>>> m
     )))

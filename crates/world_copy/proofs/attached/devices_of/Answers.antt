@@ -10,15 +10,9 @@ loop-device-init c =
 
 pub loop-device-preserved : goal.loop-device-preserved
 loop-device-preserved c =
-<<<<<<< 8bde38ab
     let same : c.in-Some.device ≡ c.into_device.result =
     let outer = c.device.view_is in
     let inner = c.into_device.ensures in cc in
-=======
-    let same : c.in-Some.device ≡ c.saved.inside.value =
-    let outer = c.device.view_is in
-    let inner = c.saved.view_is in cc in
->>>>>>> m
     one_moved c.loop-device.devices.items _ (into_iter_items c.loop-device.rest) (into_iter_items c.next.new.self) _ _
     c.in_ok-push.ensures.items
     (c.in-Some.ensures.items ∙ ap (λ x. x ∷ into_iter_items c.next.new.self) same) c.loop-device.invariant

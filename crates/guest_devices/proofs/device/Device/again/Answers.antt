@@ -1,7 +1,3 @@
-<<<<<<< 8bde38ab
-=======
-use Rattle.std.proofs.Common.{rules}
->>>>>>> m
 use Rattle.guest_devices.proofs.device.Device.again.Goals as goal
 
 pub returns-in-Block-clause-kept : goal.returns-in-Block-clause-kept
@@ -10,11 +6,8 @@ returns-in-Block-clause-kept c = c.block_again.ensures.kept c.args.self.now c.in
 pub returns-in-Net-clause-kept : goal.returns-in-Net-clause-kept
 returns-in-Net-clause-kept c = c.net_again.ensures.kept c.args.self.now c.in-Net.is
 
-<<<<<<< 8bde38ab
 pub returns-in-Vsock-clause-kept : goal.returns-in-Vsock-clause-kept
 returns-in-Vsock-clause-kept c = c.vsock_again.ensures.kept c.args.self.now c.in-Vsock.is
 
-=======
->>>>>>> m
 pub returns-in-Balloon-clause-kept : goal.returns-in-Balloon-clause-kept
 returns-in-Balloon-clause-kept c = c.balloon_again.ensures.kept c.args.self.now c.in-Balloon.is

@@ -8,11 +8,8 @@ returns-in-Block c = c.tell_block.ensures c.args.self.now (device.Block c.tell_b
 pub returns-in-Net : goal.returns-in-Net
 returns-in-Net c = c.tell_net.ensures c.args.self.now (device.Net c.tell_net.new.net) c.in-Net.is refl
 
-<<<<<<< 8bde38ab
 pub returns-in-Vsock : goal.returns-in-Vsock
 returns-in-Vsock c = c.tell_vsock.ensures c.args.self.now (device.Vsock c.tell_vsock.new.vsock) c.in-Vsock.is refl
 
-=======
->>>>>>> m
 pub returns-in-Balloon : goal.returns-in-Balloon
 returns-in-Balloon c = c.tell_balloon.ensures c.args.self.now (device.Balloon c.tell_balloon.new.balloon) c.in-Balloon.is refl

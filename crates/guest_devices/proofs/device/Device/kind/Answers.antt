@@ -10,11 +10,8 @@ returns-in-Block c = ap (λ (d : Device). number_of (kept_of d).kind) (sym c.in-
 pub returns-in-Net : goal.returns-in-Net
 returns-in-Net c = ap (λ (d : Device). number_of (kept_of d).kind) (sym c.in-Net.is)
 
-<<<<<<< 8bde38ab
 pub returns-in-Vsock : goal.returns-in-Vsock
 returns-in-Vsock c = ap (λ (d : Device). number_of (kept_of d).kind) (sym c.in-Vsock.is)
 
-=======
->>>>>>> m
 pub returns-in-Balloon : goal.returns-in-Balloon
 returns-in-Balloon c = ap (λ (d : Device). number_of (kept_of d).kind) (sym c.in-Balloon.is)

@@ -6,11 +6,8 @@ returns-in-Block c = c.new_block.ensures c.args.what.now c.in-Block.is
 pub returns-in-Net : goal.returns-in-Net
 returns-in-Net c = c.new_net.ensures c.args.what.now c.in-Net.is
 
-<<<<<<< 8bde38ab
 pub returns-in-Vsock : goal.returns-in-Vsock
 returns-in-Vsock c = c.new_vsock.ensures c.args.what.now c.in-Vsock.is
 
-=======
->>>>>>> m
 pub returns-in-Balloon : goal.returns-in-Balloon
 returns-in-Balloon c = c.new_balloon.ensures c.args.what.now c.in-Balloon.is

@@ -8,11 +8,8 @@ returns-in-Block c = c.give_block.ensures c.args.self.now (device.Block c.give_b
 pub returns-in-Net : goal.returns-in-Net
 returns-in-Net c = c.give_net.ensures c.args.self.now (device.Net c.give_net.new.net) c.in-Net.is refl
 
-<<<<<<< 8bde38ab
 pub returns-in-Vsock : goal.returns-in-Vsock
 returns-in-Vsock c = c.give_vsock.ensures c.args.self.now (device.Vsock c.give_vsock.new.vsock) c.in-Vsock.is refl
 
-=======
->>>>>>> m
 pub returns-in-Balloon : goal.returns-in-Balloon
 returns-in-Balloon c = c.give_balloon.ensures c.args.self.now (device.Balloon c.give_balloon.new.balloon) c.in-Balloon.is refl

@@ -23,12 +23,8 @@ returns-clause-ok g c =
     rw (← c.self.view_is)
     (λ request kept due.
     let known = g.F.Files.known in
-<<<<<<< 8bde38ab
     is_written c.args.form c.args.creation (live_of c.self.inside)
     (record (live_of c.self.inside) { ids = c.end_create.new.ids; guest = c.end_create.new.guest }) c.in-Some.guest c.args.text.now c.in-Ok.texts.done (known c.args.files.now)
-=======
-    is_written c.args.form c.args.creation (live_of c.self.inside) _ c.in-Some.guest c.args.text.now c.in-Ok.texts.done (known c.args.files.now)
->>>>>>> m
     (known c.create-written.new.files) request kept c.in-Some.is due (subst (λ (l : Live). TellsOwn l) (sym c.self.view_is) c.in-Ok.ensures.tells)
     (ended_done c.args.creation (live_of c.self.inside) _ _ _ _ c.in-Ok-written.is c.end_create.ensures.done) c.in-Ok.ensures.done c.in-Ok-written.ensures.called.kept
     (λ told. same_create _ _ _ _ _ _ _ _ _ _ _ _ c.as_str-2.ensures c.as_slice.ensures c.in-Some-pages_of.ensures.pages c.as_str.ensures

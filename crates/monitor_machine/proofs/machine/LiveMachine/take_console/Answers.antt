@@ -1,9 +1,5 @@
 use Rattle.std.proofs.Common.{Some, sym, subst, ap, ◌∙◌}
-<<<<<<< 8bde38ab
 use Rattle.responses.specs.Output.{console_line}
-=======
-use Rattle.script_output.specs.Output.{console_line}
->>>>>>> m
 use Rattle.vm_world.specs.Worlds.{WorldValue}
 use Rattle.monitor_machine.specs.Ready.{IsReadyLive}
 use Rattle.monitor_machine.specs.Seen.{live_of}

@@ -5,20 +5,13 @@ use Rattle.monitor_plans.proofs.taken_config.TakenConfig.set_drives.Goals as goa
 
 pub invariant_of-self : goal.invariant_of-self
 invariant_of-self c =
-<<<<<<< 8bde38ab
     let fit = subst (λ (k : Config). AreFitting c.args.drives k.interfaces k.vsock k.balloon) (sym c.self.view_is) c.requires in
-=======
-    let fit = subst (λ (k : Config). AreFitting c.args.drives k.interfaces k.balloon) (sym c.self.view_is) c.requires in
->>>>>>> m
     rw c.set_drives.ensures (record {
       source = c.self.invariant.source;
       drives = fit.0;
       interfaces = c.self.invariant.interfaces;
-<<<<<<< 8bde38ab
       vsock = c.self.invariant.vsock;
       mmds = c.self.invariant.mmds;
-=======
->>>>>>> m
       machine = c.self.invariant.machine;
       balloon = c.self.invariant.balloon;
       room = fit.1;

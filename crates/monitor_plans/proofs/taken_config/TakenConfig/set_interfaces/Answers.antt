@@ -5,20 +5,13 @@ use Rattle.monitor_plans.proofs.taken_config.TakenConfig.set_interfaces.Goals as
 
 pub invariant_of-self : goal.invariant_of-self
 invariant_of-self c =
-<<<<<<< 8bde38ab
     let fit = subst (λ (k : Config). AreLinked k.drives c.args.interfaces k.vsock k.balloon k.mmds) (sym c.self.view_is) c.requires in
-=======
-    let fit = subst (λ (k : Config). AreLinked k.drives c.args.interfaces k.balloon) (sym c.self.view_is) c.requires in
->>>>>>> m
     rw c.set_interfaces.ensures (record {
       source = c.self.invariant.source;
       drives = c.self.invariant.drives;
       interfaces = fit.0;
-<<<<<<< 8bde38ab
       vsock = c.self.invariant.vsock;
       mmds = fit.2;
-=======
->>>>>>> m
       machine = c.self.invariant.machine;
       balloon = c.self.invariant.balloon;
       room = fit.1;

@@ -20,15 +20,8 @@ returns-clause-guest c = λ g is.
     let w = c.self.inside in
     let same = c.deref_mut.ensures.value in
     let long = c.reset_all.auto.devices in
-<<<<<<< 8bde38ab
     let items = with_items_is w.devices c.reset_all.new.devices (omega (arith, long, ap length same, w.devices.ok)) in
     reset_is c.args.self.now _ g
     (world_is c.args.self.now
     (record (world_with w.pages.pages w.board w.ports.items w.timer w.harts.items w.devices.items) { spare = w.pages.spare })
     _ c.reset_all.new.devices _ c.self.view_is same items c.reset_all.ensures) is
-=======
-    let after = with_items_is w.devices c.reset_all.new.devices (omega (arith, long, ap length same, w.devices.ok))
-    ∙ c.reset_all.ensures ∙ ap (map kept_reset) same in
-    subst (λ (devices : List Device). IsWorld (world_with w.pages.pages w.board w.ports.items w.timer w.harts.items devices) (reset_guest g))
-    (sym after) (reset_is (record (world_with w.pages.pages w.board w.ports.items w.timer w.harts.items w.devices.items) { spare = w.pages.spare }) g (subst (λ (v : WorldValue). IsWorld v g) (sym c.self.view_is) is))
->>>>>>> m
