@@ -3,8 +3,8 @@
 
 use firecracker_cli::{ServeOutside, firecracker_main};
 use host_real::{
-    Bell, DiskFiles, RandomWords, SocketConn, SocketListener, SystemClock, TraceFile,
-    keep_freed_memory,
+    Bell, DiskFiles, LinkSockets, RandomWords, SocketConn, SocketListener, SystemClock, TraceFile,
+    VsockSockets, keep_freed_memory,
 };
 use monitor_cli::{NoWords, Outside};
 use monitor_running::TracedHost;
@@ -34,8 +34,8 @@ fn main(rt: HostRuntime) -> ExitCode {
         turns: TracedHost {
             host: Host {
                 disk: DiskFiles::new(&rt),
-                link: (),
-                vsock: (),
+                link: LinkSockets::new(&rt, &bell),
+                vsock: VsockSockets::new(&rt, &bell),
                 clock: SystemClock::new(&rt, &bell),
             },
             trace: TraceFile::new(&rt),
@@ -44,7 +44,7 @@ fn main(rt: HostRuntime) -> ExitCode {
         listener: SocketListener::new(&rt, &bell),
     };
     let words = words(&rt).map_err(|e| why(&e));
-    let exit = firecracker_main::<_, _, _, _, _, _, SocketConn<'_, _>, _, _, _>(
+    let exit = firecracker_main::<_, _, _, _, _, _, _, _, SocketConn<'_, _>, _, _, _>(
         &rt,
         rt.alloc(),
         words,

@@ -15,7 +15,7 @@ use Rattle.flat_machine.specs.Run.{Act}
 use Rattle.flat_trace.specs.Showing.{Out, shown}
 use Rattle.monitor_core.specs.declared.monitor.Monitor.{Monitor}
 use Rattle.monitor_core.specs.State.{IsMonitor}
-use Rattle.monitor_running.specs.Asked.{HostKnown}
+use Rattle.monitor_running.specs.Asked.{HostKnown, healths}
 use Rattle.monitor_running.specs.Reached.{Start, known}
 use Rattle.monitor_running.proofs.Joins.{none_ahead, none_asked, none_given}
 use Rattle.monitor_serving.specs.Connections.{AreToldInPart, BrokeOff, EndCause, Goes, HasGone, HasServed, Place, place}
@@ -43,7 +43,7 @@ module _ (given : ServeWords) (before : ServeKnown) where
       → OpensPart given before.listener before.hosts.slices.trace now.listener now.hosts.slices.trace
       → now.hosts.slices.sink.taken ≡ before.hosts.slices.sink.taken → now.listener.ended ≡ before.listener.ended
       → now.listener.coming ≡ before.listener.coming → now.hosts.files ≡ before.hosts.files
-      → AskedSince exit before.hosts.slices.host.disk.health start before.hosts.slices.host now.hosts.slices.host → Cut exit given before now
+      → AskedSince exit (healths before.hosts.slices.host.devices) start before.hosts.slices.host now.hosts.slices.host → Cut exit given before now
   nothing_served exit now opened sunk ended coming files behind = record {
     acts = [];
     outs = [];
@@ -52,7 +52,7 @@ module _ (given : ServeWords) (before : ServeKnown) where
     since = [];
     ran = record {
       run = (refl, refl);
-      asked = none_asked before.hosts.slices.host.disk.health start before.hosts.slices.host;
+      asked = none_asked (healths before.hosts.slices.host.devices) start before.hosts.slices.host;
     };
     behind = behind;
     begun = inl (record { none = refl; opened = opened });
@@ -64,8 +64,8 @@ module _ (given : ServeWords) (before : ServeKnown) where
 
   -- which an object's fault ended, of which no actor asks anything
   pub none_behind : (o : Object) (t u w x l m : Health) → BeginCause o t u w x l m → (at : Machine) (host : HostKnown)
-      → AskedSince (Exit.Fault o) before.hosts.slices.host.disk.health at host host
-  none_behind object.Trace t u w x l m cause at host = (at, none_ahead before.hosts.slices.host.disk.health at host)
+      → AskedSince (Exit.Fault o) (healths before.hosts.slices.host.devices) at host host
+  none_behind object.Trace t u w x l m cause at host = (at, none_ahead (healths before.hosts.slices.host.devices) at host)
   none_behind object.Words t u w x l m cause at host = refl
   none_behind object.Listener t u w x l m cause at host = refl
   none_behind object.Source t u w x l m cause at host = absurd cause
@@ -102,7 +102,7 @@ module _ (given : ServeWords) (before : ServeKnown) where
       since = [];
       stands = record {
         is = becomes before.hosts.files start is;
-        disks = tt;
+        own = record { disk = tt; link = tt; vsock = tt };
         reached = record {
           acts = [];
           outs = [];
@@ -111,7 +111,7 @@ module _ (given : ServeWords) (before : ServeKnown) where
           run = (refl, refl);
           sink = sym (append-nil before.hosts.slices.sink.taken);
           talks = refl;
-          asked = none_asked before.hosts.slices.host.disk.health (with_lineage lineage start) before.hosts.slices.host;
+          asked = none_asked (healths before.hosts.slices.host.devices) (with_lineage lineage start) before.hosts.slices.host;
         };
       };
       came = record { ended = ended; coming = sym coming };
@@ -181,7 +181,7 @@ module _ (given : ServeWords) (before : ServeKnown) where
           }
 
           broke_off : it.unshown ≡ []
-              → AskedSince (exit_of end) before.hosts.slices.host.disk.health it.at it.host now.slices.host → Cut (exit_of end) given before known_last
+              → AskedSince (exit_of end) (healths before.hosts.slices.host.devices) it.at it.host now.slices.host → Cut (exit_of end) given before known_last
           broke_off none behind =
               let sunk = now.slices.sink.taken in record {
                 acts = acts;

@@ -8,7 +8,6 @@ use Rattle.vm_types.specs.declared.exit.Object.TheVariants as object
 use Rattle.vm_outside.specs.Known.{Health, SinkKnown, Tells}
 use Rattle.vm_outside.specs.Passing.{TakesPart}
 use Rattle.vm_outside.proofs.Passing.{later_rose, rose_later}
-use Rattle.vm_host.specs.Storing.{DiskKnown}
 use Rattle.vm_host.specs.Telling.{ClockKnown}
 use Rattle.serve_host.specs.Drawing.{WordsKnown}
 use Rattle.serve_host.specs.Listening.{Ended, ListenerKnown}
@@ -26,9 +25,10 @@ use Rattle.flat_trace.specs.Showing.{Out, Run, items_of, said, shown}
 use Rattle.flat_trace.specs.Showing.Out.{Shown}
 use Rattle.flat_trace.proofs.Behind.{drain_empty, drain_off}
 use Rattle.monitor_core.specs.declared.monitor.Monitor.{Monitor}
-use Rattle.monitor_running.specs.Asked.{AnsweredSince, DisksAnswered, HostKnown}
+use Rattle.monitor_machine.specs.Kinds.{DevicesKnown}
+use Rattle.monitor_running.specs.Asked.{AnsweredSince, DevicesAnswered, Healths, HostKnown, healths}
 use Rattle.monitor_running.specs.Reached.{Reached, Seen, Start, known, seen, told_at}
-use Rattle.monitor_running.proofs.Disks.{rests_same, rests_uncalled}
+use Rattle.monitor_running.proofs.Events.{rests_same, rests_uncalled}
 use Rattle.monitor_running.proofs.Joins.{goes_by, none_ahead}
 use Rattle.monitor_running.proofs.Led.{drain_acts, drain_outs, drain_says, drain_shows, drain_told, drain_unlineaged}
 use Rattle.monitor_serving.specs.Connections.{AreToldInPart, AreToldOff}
@@ -131,10 +131,11 @@ drain_run : (m : Machine) (bytes : List ℕ) → bytes ≡ console_of m → Run 
 drain_run m [] is = (refl, ap (λ (g : Option Guest). record m { guest = g }) (nothing_drained m.guest is))
 drain_run m (byte ∷ bytes) is = (Shown (byte ∷ bytes), drained m, [], refl, (ap Shown is, (refl, (refl, refl))), (refl, refl))
 
-drain_answered : (start : Health) (m n : Machine) (bytes : List ℕ) (run : Run (drain_acts bytes) m (drain_outs bytes) n)
-    (disk : DiskKnown) → DisksAnswered start (drain_acts bytes) m (drain_outs bytes) n run disk disk
-drain_answered start m n [] run disk = rests_same disk
-drain_answered start m n (byte ∷ bytes) run disk = (disk, rests_uncalled disk disk (rests_same disk), rests_same disk)
+drain_answered : (start : Healths) (m n : Machine) (bytes : List ℕ) (run : Run (drain_acts bytes) m (drain_outs bytes) n)
+    (devices : DevicesKnown) → DevicesAnswered start (drain_acts bytes) m (drain_outs bytes) n run devices devices
+drain_answered start m n [] run devices = rests_same devices
+drain_answered start m n (byte ∷ bytes) run devices =
+    (devices, rests_uncalled devices devices (rests_same devices), rests_same devices)
 
 drain_untimed : (bytes : List ℕ) (clock : ClockKnown) → HasAnswered clock (answers_in (items_of (drain_acts bytes))) clock
 drain_untimed [] clock = record { still = λ t. t; are = λ t. refl }
@@ -146,12 +147,12 @@ pub drained_reached : (s : Start) (old now : Seen) (m : Machine) (talk : List Ou
 drained_reached s old now m talk r told sunk same =
     let bytes = console_of m in
     let run = drain_run m bytes refl in
-    let begun : Health = told_at s in
+    let begun : Healths = told_at s in
     goes_by s old now m (drained m) talk (drain_acts bytes) (drain_outs bytes) r run
     (told ∙ ap (λ (l : List Item). old.took ++ l) (sym (drain_told bytes)))
     (sunk ∙ ap (λ (l : List ℕ). old.taken ++ l) (sym (drain_shows bytes))) (drain_says bytes)
     (subst (λ (h : HostKnown). AnsweredSince begun (drain_acts bytes) m (drain_outs bytes) (drained m) run old.host h) (sym same)
-    (record { clock = drain_untimed bytes old.host.clock; disk = drain_answered begun m (drained m) bytes run old.host.disk }))
+    (record { clock = drain_untimed bytes old.host.clock; devices = drain_answered begun m (drained m) bytes run old.host.devices }))
     (drain_unlineaged bytes)
 
 -- ---- what was told whole was told in part
@@ -194,7 +195,7 @@ module _ (given : ServeWords) (before : ServeKnown) (monitor : Monitor) (mid : H
         host = mid.slices.host;
         since = it.since;
         ran = all_ran given before it.lineage words trace.took mid.slices.host sink.taken it.last it.talk r;
-        behind = (it.last, none_ahead before.hosts.slices.host.disk.health it.last mid.slices.host);
+        behind = (it.last, none_ahead (healths before.hosts.slices.host.devices) it.last mid.slices.host);
         begun = inr (record {
           opened = record {
             listening = it.paths.listening;
@@ -286,7 +287,7 @@ module _ (given : ServeWords) (before : ServeKnown) (monitor : Monitor) (mid : H
       host = mid.slices.host;
       since = it.since;
       ran = ran;
-      behind = (last, none_ahead before.hosts.slices.host.disk.health last mid.slices.host);
+      behind = (last, none_ahead (healths before.hosts.slices.host.devices) last mid.slices.host);
       begun = inr (record { opened = open_now; lineage = begun; kept = kept });
       came = it.came;
       sink = sunk ∙ r.sink;

@@ -12,7 +12,7 @@ use Rattle.flat_trace.specs.Showing.{Out, items_of}
 use Rattle.flat_trace.specs.Showing.Out.{Quiet}
 use Rattle.monitor_running.specs.Asked.{HostKnown}
 use Rattle.monitor_running.specs.Reached.{Reached}
-use Rattle.monitor_running.proofs.Disks.{rests_same, rests_uncalled}
+use Rattle.monitor_running.proofs.Events.{rests_same, rests_uncalled}
 use Rattle.firecracker_cli.specs.Serving.{HasLineage, ServeKnown, TraceRan, took_before}
 use Rattle.firecracker_cli.specs.SoFar.{start_at, with_lineage}
 
@@ -32,10 +32,10 @@ module _ (given : ServeWords) (before : ServeKnown) (lineage : ℕ) (words : Wor
 
   pub all_ran : TraceRan given.id before host all_acts all_outs m
   all_ran =
-      let disk = before.hosts.slices.host.disk in
+      let devices = before.hosts.slices.host.devices in
       let start = with_lineage lineage (new_machine given.id before.hosts.files.saved before.hosts.files.calls) in record {
         run = (Quiet, start, r.outs, refl, (refl, (refl, (refl, refl))), r.run);
-        asked = record { clock = r.asked.clock; disk = (disk, rests_uncalled disk disk (rests_same disk), r.asked.disk) };
+        asked = record { clock = r.asked.clock; devices = (devices, rests_uncalled devices devices (rests_same devices), r.asked.devices) };
       }
 
   pub all_begun : (Tells before.words.health → IsDrawn before.words.left lineage words.left) → HasLineage before.words words all_acts

@@ -5,6 +5,8 @@ use Rattle.vm_types.specs.Causes.{Rose}
 use Rattle.vm_types.specs.declared.exit.Exit.{Exit}
 use Rattle.vm_types.specs.declared.exit.Object.TheVariants as object
 use Rattle.vm_outside.specs.Known.{FilesKnown, Health, Lasts, SinkKnown, Tells}
+use Rattle.vm_host.specs.Framing.{LinkKnown}
+use Rattle.vm_host.specs.Hosting.{VsockKnown}
 use Rattle.vm_host.specs.Storing.{DiskKnown}
 use Rattle.vm_host.specs.Telling.{ClockKnown}
 use Rattle.serve_host.specs.Drawing.{IsDrawn, WordsKnown}
@@ -18,7 +20,7 @@ use Rattle.flat_machine.specs.Machine.{AreFilesOf, Machine, console_of, is_off, 
 use Rattle.flat_machine.specs.Run.{Act}
 use Rattle.flat_trace.specs.Events.{quiet_act}
 use Rattle.flat_trace.specs.Showing.{Out, Run, items_of, said, shown}
-use Rattle.monitor_running.specs.Asked.{HostAnswered, HostKnown}
+use Rattle.monitor_running.specs.Asked.{Healths, HostAnswered, HostKnown, healths}
 use Rattle.monitor_running.specs.Reached.{LeadsAhead, NoLineage}
 use Rattle.monitor_running.specs.Traced.{traced_known}
 use Rattle.monitor_serving.specs.Connections.{AreTold, AreToldInPart, AreToldOff, HaveCome}
@@ -35,10 +37,11 @@ abbrev pub serve_known : Hosts → WordsKnown → ListenerKnown → ServeKnown
 serve_known hosts words listener = record { hosts = hosts; words = words; listener = listener }
 
 -- of these objects, by what each of their types tells
-abbrev pub serve_known_of : {T K C D F W M : Type 0} → (T → TraceKnown) → (K → SinkKnown) → (C → ClockKnown) → (D → DiskKnown)
-    → (F → FilesKnown) → (W → WordsKnown) → (M → ListenerKnown) → K → F → ServeOutside D C W M T → ServeKnown
-serve_known_of of_trace of_sink of_clock of_disk of_files of_words of_listener sink files with =
-    serve_known (hosts_of (traced_known of_trace of_clock of_disk) of_sink of_files with.turns sink files) (of_words with.words)
+abbrev pub serve_known_of : {T K C D L V F W M : Type 0} → (T → TraceKnown) → (K → SinkKnown) → (C → ClockKnown) → (D → DiskKnown)
+    → (L → LinkKnown) → (V → VsockKnown) → (F → FilesKnown) → (W → WordsKnown) → (M → ListenerKnown) → K → F
+    → ServeOutside D L V C W M T → ServeKnown
+serve_known_of of_trace of_sink of_clock of_disk of_link of_vsock of_files of_words of_listener sink files with =
+    serve_known (hosts_of (traced_known of_trace of_clock of_disk of_link of_vsock) of_sink of_files with.turns sink files) (of_words with.words)
     (of_listener with.listener)
 
 -- the trace, the sink, the files and the listener tell their content; what is said of the words holds where these tell theirs
@@ -66,7 +69,7 @@ pub record NoneFailed (before now : ServeKnown) : Type 0 where
   pub listener : Rose before.listener.health.faults now.listener.health.faults → ⊥
 
 -- A machine of this id that has not started did these acts, and showed this. The timer was given the clock's answers, and each
--- device its disk's.
+-- device those of its disk, its link or its socket.
 pub record TraceRan (id : List ℕ) (before : ServeKnown) (host : HostKnown) (acts : List Act) (outs : List Out) (last : Machine) :
     Type 0 where
   pub run : Run acts (new_machine id before.hosts.files.saved before.hosts.files.calls) outs last
@@ -164,9 +167,9 @@ pub record HasNotBegun (it : ServeWords) (before now : ServeKnown) (acts : List 
   pub none : acts ≡ []
   pub opened : OpensPart it before.listener before.hosts.slices.trace now.listener now.hosts.slices.trace
 
--- what the clock and the disks were asked since the trace's end: by a trace that failed, in events that it lacks; else
+-- what the clock and the objects of devices were asked since the trace's end: by a trace that failed, in events that it lacks; else
 -- nothing
-abbrev pub AskedSince : Exit → Health → Machine → HostKnown → HostKnown → Type 0
+abbrev pub AskedSince : Exit → Healths → Machine → HostKnown → HostKnown → Type 0
 AskedSince (Exit.Fault object.Trace) start at told now = (flat : Machine) × LeadsAhead start at told flat now
 AskedSince exit start at told now = now ≡ told
 
@@ -180,7 +183,7 @@ pub record ServedPart (exit : Exit) (it : ServeWords) (before now : ServeKnown) 
   pub host : HostKnown
   pub since : List Ended
   pub ran : TraceRan it.id before host acts outs at
-  pub behind : AskedSince exit before.hosts.slices.host.disk.health at host now.hosts.slices.host
+  pub behind : AskedSince exit (healths before.hosts.slices.host.devices) at host now.hosts.slices.host
   pub begun : HasNotBegun it before now acts ⊎ HasBegun it before now acts
   pub came : HaveCome before.listener since now.listener
   pub rest : List ℕ

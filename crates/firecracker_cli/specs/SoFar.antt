@@ -4,7 +4,7 @@ use Rattle.vm_types.specs.Causes.{Rose}
 use Rattle.vm_types.specs.declared.exit.Exit.{Exit}
 use Rattle.vm_types.specs.declared.exit.Object.{Object}
 use Rattle.vm_types.specs.declared.exit.Object.TheVariants as object
-use Rattle.monitor_running.specs.Asked.{HostKnown}
+use Rattle.monitor_running.specs.Asked.{HostKnown, healths}
 use Rattle.vm_outside.specs.Known.{FilesKnown, Health, Tells}
 use Rattle.serve_host.specs.Drawing.{IsDrawn, WordsKnown}
 use Rattle.serve_host.specs.Listening.{Ended}
@@ -29,7 +29,7 @@ abbrev pub with_lineage : ℕ → Machine → Machine
 with_lineage lineage m = record m { ids = record m.ids { lineage = lineage } }
 
 -- where everything is once the lineage is drawn: the trace has its item, and a machine of this id that has not started, and so has no
--- disk, has it
+-- device, has it
 abbrev pub start_at : ServeWords → ServeKnown → ℕ → Start
 start_at it before lineage = record {
   seen = record (seen before.hosts.slices) {
@@ -66,7 +66,7 @@ pub record Cut (exit : Exit) (it : ServeWords) (before now : ServeKnown) : Type 
   pub host : HostKnown
   pub since : List Ended
   pub ran : TraceRan it.id before host acts outs at
-  pub behind : AskedSince exit before.hosts.slices.host.disk.health at host now.hosts.slices.host
+  pub behind : AskedSince exit (healths before.hosts.slices.host.devices) at host now.hosts.slices.host
   pub begun : HasNotBegun it before now acts ⊎ HasBegun it before now acts
   pub came : HaveCome before.listener since now.listener
   pub sink : now.hosts.slices.sink.taken ≡ before.hosts.slices.sink.taken ++ shown outs

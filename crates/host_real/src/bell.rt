@@ -1,5 +1,6 @@
 // What wakes who rests while nothing can run.
 use crate::looking::{NO_DESCRIPTOR, rest_on};
+use crate::watched::Watched;
 use std::io::{Read, Write};
 use std::net::Net;
 use std::os::unix::io::{AsRawFd, RawFd};
@@ -15,6 +16,8 @@ const BLIND_REST: u64 = 1;
 /// quiets it. Where none does, what comes wakes by itself, and so does the moment at which the reader wants to look again.
 ///
 /// A client at the door, which is the listening socket, wakes while nobody is connected, and else until the reader knows of it.
+///
+/// What comes on a descriptor that is watched wakes once. Who rests looks there again after each rest.
 #[derive(Drop)]
 pub struct Bell {
     ends: Option<Ends>,
@@ -35,6 +38,7 @@ pub struct Bell {
 struct Ends {
     near: UnixStream,
     far: UnixStream,
+    watched: Watched,
 }
 
 impl Bell {
@@ -102,6 +106,20 @@ impl Bell {
         self.is_awaited.store(is_awaited, Ordering::SeqCst);
     }
 
+    /// What has come on this descriptor wakes, and what comes from now on. Where there is no memory for that it doesn't.
+    pub(crate) fn watch(&self, fd: RawFd) {
+        if let Some(ends) = &self.ends {
+            let _added = ends.watched.add(fd);
+        }
+    }
+
+    /// The same of one that is watched, again; and where it waits for room, that there is some wakes too.
+    pub(crate) fn watch_again(&self, fd: RawFd, waits_for_room: bool) {
+        if let Some(ends) = &self.ends {
+            let _renewed = ends.watched.renew(fd, waits_for_room);
+        }
+    }
+
     /// Whether somebody rests.
     pub(crate) fn is_resting(&self) -> bool {
         self.is_resting.load(Ordering::SeqCst)
@@ -132,7 +150,12 @@ impl Bell {
         self.is_resting.store(true, Ordering::SeqCst);
         if !self.is_rung.load(Ordering::SeqCst) {
             let near = ends.near.as_raw_fd();
-            rest_on([near, self.waking_client(), self.waking_door()], most);
+            let watched = ends.watched.as_raw_fd();
+            rest_on(
+                [near, self.waking_client(), self.waking_door(), watched],
+                most,
+            );
+            ends.watched.forget();
         }
         self.is_resting.store(false, Ordering::SeqCst);
     }
@@ -173,10 +196,11 @@ impl Bell {
     }
 }
 
-// Neither end waits.
+// Neither end waits, and nothing is watched.
 fn make_pair(net: &impl Net) -> io::Result<Ends> {
     let (near, far) = UnixStream::pair(net)?;
     near.set_nonblocking(true)?;
     far.set_nonblocking(true)?;
-    Ok(Ends { near, far })
+    let watched = Watched::new(net)?;
+    Ok(Ends { near, far, watched })
 }

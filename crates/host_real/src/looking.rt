@@ -30,8 +30,8 @@ pub(crate) fn look(first: RawFd, second: RawFd, most: Duration) -> Seen {
     }
 }
 
-/// Waits so until one of three is ready.
-pub(crate) fn rest_on(fds: [RawFd; 3], most: Duration) {
+/// Waits so until one of four is ready.
+pub(crate) fn rest_on(fds: [RawFd; 4], most: Duration) {
     let mut asked = fds.map(|fd| question(fd, POLLIN));
     poll(&mut asked, millis_of(most));
 }

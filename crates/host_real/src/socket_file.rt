@@ -1,4 +1,5 @@
 // A socket that is bound to a name in the file system, which goes with it.
+use crate::dialling::dial;
 use crate::file_lock::take_folder;
 use crate::status::done;
 use outside_real::{OWNER_ALONE, folder_of};
@@ -8,7 +9,7 @@ use std::io::ErrorKind;
 use std::net::Net;
 use std::os::unix::fs::{FileTypeExt, MetadataExt};
 use std::os::unix::io::{AsFd, AsRawFd};
-use std::os::unix::net::{SocketAddr, UnixListener, UnixStream};
+use std::os::unix::net::{SocketAddr, UnixListener};
 use std::path::AsPath;
 use std::time::Duration;
 use std::{fs, io, rt, thread};
@@ -16,8 +17,8 @@ use std::{fs, io, rt, thread};
 /// The name under which a socket is made before it is put in its place, in the same folder.
 const FIRST_NAME: &str = ".new";
 
-/// So often a folder's lock is asked for, a millisecond apart.
-const LOCK_TRIES: u32 = 5_000;
+/// So often a folder's lock is asked for where nothing else is to be done, a millisecond apart.
+pub(crate) const LOCK_TRIES: u32 = 5_000;
 
 const LOCK_PAUSE: u64 = 1;
 
@@ -29,6 +30,8 @@ pub(crate) struct SocketFile<'a, R: rt::Files<File = File> + rt::Clock> {
     rt: &'a R,
     path: String,
     node: (u64, u64),
+    /// So often its folder's lock is asked for.
+    tries: u32,
     pub(crate) listener: UnixListener,
     /// Given up where no descriptor is left for a client, which is then turned away.
     spare: Option<UnixListener>,
@@ -40,12 +43,13 @@ impl<'a, R: rt::Files<File = File> + rt::Clock> Drop for SocketFile<'a, R> {
             rt,
             path,
             node,
+            tries,
             listener,
             spare,
         } = self;
         drop(spare);
         // Nobody is put in its place between the look and the end.
-        let _lock = lock_folder(rt, path.as_str());
+        let _lock = lock_folder(rt, path.as_str(), tries);
         // No other file has its number while it listens.
         let is_there = matches!(node_of(rt, path.as_str()), Ok(seen) if seen == node);
         drop(listener);
@@ -59,10 +63,11 @@ impl<'a, R: rt::Files<File = File> + rt::Clock> Drop for SocketFile<'a, R> {
 impl<'a, R: rt::Files<File = File> + rt::Clock + Net + AllocGlobal> SocketFile<'a, R> {
     /// Takes the place of a socket on which nobody listens. One in use is an error, and so is any other file.
     ///
-    /// The socket listens already when it comes to its place. Of two that come at once, the second one finds the first.
-    pub(crate) fn bind(rt: &'a R, path: &str) -> io::Result<SocketFile<'a, R>> {
+    /// The socket listens already when it comes to its place. Of two that come at once, the second one finds the first. The lock on
+    /// its folder is asked for so often, a millisecond apart; nothing else is waited for.
+    pub(crate) fn bind(rt: &'a R, path: &str, tries: u32) -> io::Result<SocketFile<'a, R>> {
         let kept = String::from_str(rt.alloc(), path)?;
-        let _lock = lock_folder(rt, path)?;
+        let _lock = lock_folder(rt, path, tries)?;
         let is_left = is_left(rt, path)?;
         let first = first_name(rt.alloc(), path)?;
         remove_left(rt, first.as_str())?;
@@ -74,6 +79,7 @@ impl<'a, R: rt::Files<File = File> + rt::Clock + Net + AllocGlobal> SocketFile<'
             rt,
             path: kept,
             node,
+            tries,
             listener,
             spare,
         })
@@ -90,10 +96,17 @@ impl<'a, R: rt::Files<File = File> + rt::Clock + Net + AllocGlobal> SocketFile<'
     }
 }
 
-// A folder's lock, which ends when what is answered is let go.
-fn lock_folder<R: rt::Files<File = File> + rt::Clock>(rt: &R, path: &str) -> io::Result<File> {
+// A folder's lock, which ends when what is answered is let go. What is no folder isn't opened, since that may wait.
+fn lock_folder<R: rt::Files<File = File> + rt::Clock>(
+    rt: &R,
+    path: &str,
+    tries: u32,
+) -> io::Result<File> {
+    if !fs::metadata(rt, folder_of(path))?.is_dir() {
+        return Err(io::Error::from(ErrorKind::NotADirectory));
+    }
     let folder = File::open(rt, folder_of(path))?;
-    for _ in 0..LOCK_TRIES {
+    for _ in 0..tries {
         match take_folder(&folder) {
             Ok(()) => return Ok(folder),
             Err(e) if e.kind() == ErrorKind::WouldBlock => {}
@@ -150,7 +163,7 @@ fn is_left<R: rt::Files + Net>(rt: &R, path: &str) -> io::Result<bool> {
         Err(e) if e.kind() == ErrorKind::NotFound => return Ok(false),
         Err(e) => return Err(e),
     }
-    match UnixStream::connect(rt, path) {
+    match dial(rt, path) {
         Ok(_) => Err(io::Error::from(ErrorKind::AddrInUse)),
         Err(e) if e.kind() == ErrorKind::ConnectionRefused => Ok(true),
         Err(e) => Err(e),

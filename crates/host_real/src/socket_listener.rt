@@ -4,7 +4,7 @@ ghost use Rattle.std.specs.Prelude.{◌≡◌, Err, IfErr};
 use crate::bell::Bell;
 use crate::looking::NO_DESCRIPTOR;
 use crate::socket_conn::SocketConn;
-use crate::socket_file::SocketFile;
+use crate::socket_file::{LOCK_TRIES, SocketFile};
 use outside_real::counted::counted;
 use serve_host::{Accepted, Listener};
 use std::fs::File;
@@ -80,7 +80,10 @@ impl<'a, R: rt::Files<File = File> + rt::Clock + Net + AllocGlobal> Listener<Soc
 
     /// It goes on listening where it did, if this fails. The bell's door is the new socket.
     fn listen(&mut self, path: &str) -> Result<(), Failed> {
-        let file = counted(&mut self.faults, SocketFile::bind(self.rt, path))?;
+        let file = counted(
+            &mut self.faults,
+            SocketFile::bind(self.rt, path, LOCK_TRIES),
+        )?;
         self.bell.set_door(file.listener.as_raw_fd());
         self.open = Some(file);
         Ok(())

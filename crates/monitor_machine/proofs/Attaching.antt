@@ -1,9 +1,11 @@
--- The files of drives are attached one after another.
-use Rattle.std.proofs.Common.{◌≡◌, ◌≢◌, ℕ, ◌<◌, ◌+◌, nat_lt, Bool, true, false, refl, sym, ◌∙◌, subst, arith, Option, Some, None}
+-- Objects of a kind are attached one after another.
+use Rattle.std.proofs.Common.{◌≡◌, ◌≢◌, ℕ, ◌<◌, ◌+◌, nat_lt, Bool, true, false, refl, sym, ◌∙◌, subst, arith, List, Option, Some, None}
 use Rattle.std.proofs.lemmas.Bool.{ltb-true, ltb-false}
 use Rattle.vm_outside.specs.Known.{Health, Tells}
 use Rattle.vm_host.specs.declared.attached.Attached.{Attached}
 use Rattle.vm_host.specs.Devices.{IsOf}
+use Rattle.vm_host.specs.Framing.{LinkKnown}
+use Rattle.vm_host.specs.Hosting.{VsockKnown}
 use Rattle.vm_host.specs.Storing.{DiskKnown}
 use Rattle.port_table.specs.Window.{most_ports}
 use Rattle.vm_config.specs.declared.config.Config.{Config}
@@ -11,65 +13,93 @@ use Rattle.flat_guest.specs.Guest.{Guest}
 use Rattle.flat_machine.specs.Machine.{Machine}
 use Rattle.vm_world.specs.Worlds.{WorldValue}
 use Rattle.monitor_machine.specs.declared.machine.LiveMachine.{LiveMachine}
-use Rattle.monitor_machine.specs.Disks.{DiskUncalled, HasFile, HasFiles, HasFilesBy}
+use Rattle.monitor_machine.specs.Kinds.{disks, links, vsocks}
+use Rattle.monitor_machine.specs.Objects.{AreNamed, AreNamedBy, Named, ObjectKind, Uncalled}
 use Rattle.monitor_machine.specs.State.{IsGuestBy, IsLive}
 
-pub uncalled_none : (disk : DiskKnown) → DiskUncalled disk disk
-uncalled_none disk = record {
-  lasts = record { still = λ tells. tells; later = omega arith };
-  kept = refl;
-  held = λ tells. refl;
-  calls = λ tells. refl;
+-- what all that is beside the names has: it is as it was where nothing was done, and where it was so twice
+pub record BesideLaw {K : Type 0} (kind : ObjectKind K) : Type 0 where
+  pub none : (a : K) → kind.Beside a a
+  pub more : (a b c : K) → kind.Beside a b → kind.Beside b c → kind.Beside a c
+
+pub disks_beside : BesideLaw disks
+disks_beside = record {
+  none = λ a. record { held = refl; calls = refl };
+  more = λ a b c first behind. record { held = behind.held ∙ first.held; calls = behind.calls ∙ first.calls };
 }
 
-pub uncalled_more : (a b c : DiskKnown) → DiskUncalled a b → DiskUncalled b c → DiskUncalled a c
-uncalled_more a b c first behind = record {
-  lasts = record {
-    still = λ tells. behind.lasts.still (first.lasts.still tells);
-    later = omega (arith, first.lasts.later, behind.lasts.later);
+pub links_beside : BesideLaw links
+links_beside = record {
+  none = λ a. record { wires = refl };
+  more = λ a b c first behind. record { wires = behind.wires ∙ first.wires };
+}
+
+pub vsocks_beside : BesideLaw vsocks
+vsocks_beside = record {
+  none = λ a. record { coming = refl; answers = refl; done = refl };
+  more = λ a b c first behind. record {
+    coming = behind.coming ∙ first.coming;
+    answers = behind.answers ∙ first.answers;
+    done = behind.done ∙ first.done;
   };
-  kept = behind.kept ∙ first.kept;
-  held = λ tells. behind.held (first.lasts.still tells) ∙ first.held tells;
-  calls = λ tells. behind.calls (first.lasts.still tells) ∙ first.calls tells;
 }
 
-module _ (config : Config) (device : ℕ) (start mid now : DiskKnown) (uncalled : DiskUncalled start mid)
-    (before : (k : ℕ) → k < device → HasFile start.health config k mid) (here : HasFile mid.health config device now)
-    (others : Tells mid.health → (other : ℕ) → other ≢ device → now.files other ≡ mid.files other) where
-  still_file : (k : ℕ) → k < device → HasFile start.health config k now
-  still_file k there tells drive is =
-      let other : k ≢ device = λ same. omega (arith, same, there) in
-      subst (λ (a : Attached). IsOf drive.path_on_host a) (sym (others (uncalled.lasts.still tells) k other))
-      (before k there tells drive is)
+module _ {K : Type 0} (kind : ObjectKind K) (law : BesideLaw kind) where
+  pub uncalled_none : (a : K) → Uncalled kind a a
+  uncalled_none a = record {
+    lasts = record { still = λ tells. tells; later = omega arith };
+    kept = refl;
+    beside = λ tells. law.none a;
+  }
 
-  either : (k : ℕ) → k < device + 1 → (below : Bool) → nat_lt k device ≡ below → HasFile start.health config k now
-  either k less true is = still_file k (ltb-true k device is)
+  pub uncalled_more : (a b c : K) → Uncalled kind a b → Uncalled kind b c → Uncalled kind a c
+  uncalled_more a b c first behind = record {
+    lasts = record {
+      still = λ tells. behind.lasts.still (first.lasts.still tells);
+      later = omega (arith, first.lasts.later, behind.lasts.later);
+    };
+    kept = behind.kept ∙ first.kept;
+    beside = λ tells. law.more a b c (first.beside tells) (behind.beside (first.lasts.still tells));
+  }
+
+module _ {K : Type 0} (kind : ObjectKind K) (config : Config) (device : ℕ) (start mid now : K) (uncalled : Uncalled kind start mid)
+    (before : (k : ℕ) → k < device → Named kind (kind.health start) config k mid)
+    (here : Named kind (kind.health mid) config device now)
+    (others : Tells (kind.health mid) → (other : ℕ) → other ≢ device → kind.names now other ≡ kind.names mid other) where
+  still_named : (k : ℕ) → k < device → Named kind (kind.health start) config k now
+  still_named k there tells name is =
+      let other : k ≢ device = λ same. omega (arith, same, there) in
+      subst (λ (a : Attached). IsOf name a) (sym (others (uncalled.lasts.still tells) k other)) (before k there tells name is)
+
+  either : (k : ℕ) → k < device + 1 → (below : Bool) → nat_lt k device ≡ below → Named kind (kind.health start) config k now
+  either k less true is = still_named k (ltb-true k device is)
   either k less false is =
       let above = ltb-false k device is in
       let same : k ≡ device = omega (arith, less, above) in
-      subst (λ (n : ℕ). HasFile start.health config n now) (sym same) (λ tells. here (uncalled.lasts.still tells))
+      subst (λ (n : ℕ). Named kind (kind.health start) config n now) (sym same) (λ tells. here (uncalled.lasts.still tells))
 
   -- one device more
-  pub files_more : (k : ℕ) → k < device + 1 → HasFile start.health config k now
-  files_more k less = either k less (nat_lt k device) refl
+  pub named_more : (k : ℕ) → k < device + 1 → Named kind (kind.health start) config k now
+  named_more k less = either k less (nat_lt k device) refl
 
-module _ (start : Health) (config : Config) (disk : DiskKnown) (all : (k : ℕ) → k < most_ports → HasFile start config k disk) where
-  by_guest : (guest : Option Guest) → HasFilesBy start guest config disk
+module _ {K : Type 0} (kind : ObjectKind K) (start : Health) (config : Config) (now : K)
+    (all : (k : ℕ) → k < most_ports → Named kind start config k now) where
+  by_guest : (guest : Option Guest) → AreNamedBy kind start guest config now
   by_guest None = tt
   by_guest (Some g) = all
 
-pub all_attached : (live : LiveMachine) (start : Health) (disk : DiskKnown)
-    → ((k : ℕ) → k < most_ports → HasFile start live.config k disk) → (m : Machine) → IsLive live m → HasFiles start m disk
-all_attached live start disk all m is =
-    subst (λ (c : Config). HasFilesBy start m.guest c disk) is.config_is (by_guest start live.config disk all m.guest)
+pub all_attached : {K : Type 0} (kind : ObjectKind K) (live : LiveMachine) (start : Health) (now : K)
+    → ((k : ℕ) → k < most_ports → Named kind start live.config k now) → (m : Machine) → IsLive live m → AreNamed kind start m now
+all_attached kind live start now all m is =
+    subst (λ (c : Config). AreNamedBy kind start m.guest c now) is.config_is (by_guest kind start live.config now all m.guest)
 
-no_guest : (start : Health) (config : Config) (disk : DiskKnown) (world : Option WorldValue) (guest : Option Guest) → world ≡ None
-    → IsGuestBy world guest → HasFilesBy start guest config disk
-no_guest start config disk world None none is = tt
-no_guest start config disk None (Some g) none is = absurd is
-no_guest start config disk (Some w) (Some g) none is = cc
+no_guest : {K : Type 0} (kind : ObjectKind K) (start : Health) (config : Config) (now : K) (world : Option WorldValue)
+    (guest : Option Guest) → world ≡ None → IsGuestBy world guest → AreNamedBy kind start guest config now
+no_guest kind start config now world None none is = tt
+no_guest kind start config now None (Some g) none is = absurd is
+no_guest kind start config now (Some w) (Some g) none is = cc
 
 -- a machine without a guest
-pub none_attached : (live : LiveMachine) (start : Health) (disk : DiskKnown) → live.guest ≡ None → (m : Machine) → IsLive live m
-    → HasFiles start m disk
-none_attached live start disk none m is = no_guest start m.config disk live.guest m.guest none is.guest_is
+pub none_attached : {K : Type 0} (kind : ObjectKind K) (live : LiveMachine) (start : Health) (now : K) → live.guest ≡ None
+    → (m : Machine) → IsLive live m → AreNamed kind start m now
+none_attached kind live start now none m is = no_guest kind start m.config now live.guest m.guest none is.guest_is

@@ -1,6 +1,7 @@
 pub mod Answering
-pub mod Disks
+pub mod Kinds
 pub mod Live
+pub mod Objects
 pub mod Plans
 pub mod Ready
 pub mod Replying

@@ -15,6 +15,7 @@ use vm_world::World;
 mod creating;
 mod drives;
 mod lines;
+mod objects;
 mod planning;
 mod replying;
 mod running;

@@ -1,95 +1,98 @@
--- The disks stay the files that they are, whatever they are asked.
-use Rattle.std.proofs.Common.{◌≡◌, ◌<◌, ℕ, zero, suc, take, drop, Bool, true, false, MatchBool, sym, ◌∙◌, subst, List, [], ◌∷◌, All, Option, Some, None}
+-- The objects of devices stay those that are configured.
+use Rattle.std.proofs.Common.{◌≡◌, ◌<◌, ℕ, zero, suc, sym, subst, Option, List, [], ◌∷◌, take, drop, All}
 use Rattle.std.specs.List.{AllByRecursion}
 use Rattle.std.proofs.lemmas.List.Elements.{recursion_from_All}
 use Rattle.vm_types.specs.declared.entry.Entry.{Entry}
 use Rattle.vm_types.specs.declared.ids.ActorId.{ActorId}
 use Rattle.vm_types.specs.declared.op.Op.{Op}
-use Rattle.vm_types.specs.declared.op.OutOp.{OutOp}
-use Rattle.vm_types.specs.declared.op.OutOp.TheVariants.{DiskFlush, DiskRead, DiskWrite}
 use Rattle.vm_types.specs.declared.reply.Reply.{Reply}
-use Rattle.vm_outside.specs.Known.{Health, Lasts, Tells}
-use Rattle.vm_outside.proofs.Passing.{lasts_more}
-use Rattle.vm_host.specs.declared.attached.Attached.{Attached}
-use Rattle.vm_host.specs.Devices.{IsOf}
-use Rattle.vm_host.specs.Storing.{DiskKnown}
+use Rattle.vm_outside.specs.Known.{Tells}
 use Rattle.vm_config.specs.declared.config.Config.{Config}
 use Rattle.port_table.specs.Window.{most_ports}
-use Rattle.device_trace.specs.Acts.{is_disk_call}
-use Rattle.flat_guest.specs.Guest.{Guest}
 use Rattle.slice_runner.specs.Slices.{IsThere}
-use Rattle.monitor_machine.specs.Disks.{HasFile, HasFilesBy}
-use Rattle.monitor_running.specs.Asked.{HasOwnFile}
-use Rattle.monitor_running.specs.Devices.{AsksDisk, CallsDisk, DiskReplies, DiskRests, DiskWasAsked, Holds, IsDevices, IsHeard}
+use Rattle.monitor_machine.specs.Kinds.{DevicesKnown, disks, links, vsocks}
+use Rattle.flat_machine.specs.Machine.{Machine}
+use Rattle.monitor_running.specs.Asked.{ActorHasOwn, HasOwn, HaveOwn, Healths, healths}
+use Rattle.monitor_running.specs.Devices.{AsksDevices, DevicesRest, IsDevices, IsHeard, WereAsked}
 use Rattle.monitor_running.specs.Waiting.{makers, turns}
-use Rattle.monitor_running.proofs.Disks.{IsOther, all_other, others_made}
+use Rattle.monitor_running.proofs.Events.{all_other, others_made}
+use Rattle.monitor_running.proofs.KindLaws.{disks_law, links_law, vsocks_law}
+use Rattle.monitor_running.proofs.OneKind.{IsOther, SameNames}
+use Rattle.monitor_running.proofs.OneKind as one
 
--- if they told their content, they are the files that they were
-pub record SameFiles (old new : DiskKnown) : Type 0 where
-  pub lasts : Lasts old.health new.health
-  pub files : Tells old.health → new.files ≡ old.files
+-- of each kind, if it told its content, the names are what they were
+pub record SameOwn (old new : DevicesKnown) : Type 0 where
+  pub disk : SameNames disks old.disk new.disk
+  pub link : SameNames links old.link new.link
+  pub vsock : SameNames vsocks old.vsock new.vsock
 
-pub files_more : (a b c : DiskKnown) → SameFiles a b → SameFiles b c → SameFiles a c
-files_more a b c first behind = record {
-  lasts = lasts_more a.health b.health c.health first.lasts behind.lasts;
-  files = λ tells. behind.files (first.lasts.still tells) ∙ first.files tells;
+-- what told its content at a start still does
+pub record StillTell (start : Healths) (now : DevicesKnown) : Type 0 where
+  pub disk : Tells start.disk → Tells now.disk.health
+  pub link : Tells start.link → Tells now.link.health
+  pub vsock : Tells start.vsock → Tells now.vsock.health
+
+pub own_more : (a b c : DevicesKnown) → SameOwn a b → SameOwn b c → SameOwn a c
+own_more a b c first behind = record {
+  disk = one.names_more disks disks_law a.disk b.disk c.disk first.disk behind.disk;
+  link = one.names_more links links_law a.link b.link c.link first.link behind.link;
+  vsock = one.names_more vsocks vsocks_law a.vsock b.vsock c.vsock first.vsock behind.vsock;
 }
 
-pub files_rest : (old new : DiskKnown) → DiskRests old new → SameFiles old new
-files_rest old new rests = record { lasts = rests.lasts; files = λ tells. (rests.same tells).files }
+pub own_rest : (old new : DevicesKnown) → DevicesRest old new → SameOwn old new
+own_rest old new rests = record {
+  disk = one.names_rest disks disks_law old.disk new.disk rests.disk;
+  link = one.names_rest links links_law old.link new.link rests.link;
+  vsock = one.names_rest vsocks vsocks_law old.vsock new.vsock rests.vsock;
+}
 
-holds_files : (k : ℕ) (act : OutOp) (reply : Reply) (old new : DiskKnown) → Holds k act reply old new → new.files ≡ old.files
-holds_files k (DiskRead sector part) (Reply.Bytes bytes) old new holds = holds.1.files
-holds_files k (DiskRead sector part) reply old new holds = holds.files
-holds_files k (DiskWrite sector part bytes) Reply.Done old new holds = holds.files
-holds_files k (DiskWrite sector part bytes) reply old new holds = holds.files
-holds_files k DiskFlush Reply.Done old new holds = holds.files
-holds_files k DiskFlush reply old new holds = holds.files
-holds_files k act reply old new holds = holds.files
+pub own_asked : (op : Op) (actor : ActorId) (reply : Reply) (old new : DevicesKnown) → AsksDevices op actor reply old new → SameOwn old new
+own_asked op actor reply old new asks = record {
+  disk = one.names_asked disks disks_law op actor reply old.disk new.disk asks.disk;
+  link = one.names_asked links links_law op actor reply old.link new.link asks.link;
+  vsock = one.names_asked vsocks vsocks_law op actor reply old.vsock new.vsock asks.vsock;
+}
 
-files_reply : (k : ℕ) (act : OutOp) (reply : Reply) (old new : DiskKnown) → DiskReplies k act reply old new → SameFiles old new
-files_reply k act reply old new replies =
-    record { lasts = replies.lasts; files = λ tells. holds_files k act reply old new (replies.held tells) }
+pub own_was : (es : List Entry) (old new : DevicesKnown) → WereAsked old es new → SameOwn old new
+own_was [] old new was = own_rest old new was
+own_was (e ∷ es) old new was =
+    own_more old was.0 new (own_asked e.op e.actor e.reply old was.0 was.1) (own_was es was.0 new was.2)
 
-files_either : (call : Bool) (k : ℕ) (act : OutOp) (reply : Reply) (old new : DiskKnown)
-    → MatchBool call (DiskReplies k act reply old new) (DiskRests old new) → SameFiles old new
-files_either true k act reply old new asks = files_reply k act reply old new asks
-files_either false k act reply old new asks = files_rest old new asks
+-- what told before still tells
+pub tell_on : (start : Healths) (old new : DevicesKnown) → StillTell start old → SameOwn old new → StillTell start new
+tell_on start old new still same = record {
+  disk = λ tells. same.disk.lasts.still (still.disk tells);
+  link = λ tells. same.link.lasts.still (still.link tells);
+  vsock = λ tells. same.vsock.lasts.still (still.vsock tells);
+}
 
-files_call : (actor : ActorId) (act : OutOp) (reply : Reply) (old new : DiskKnown) → CallsDisk actor act reply old new
-    → SameFiles old new
-files_call (ActorId.Device k) act reply old new asks = files_either (is_disk_call act) k act reply old new asks
-files_call actor act reply old new asks = files_rest old new asks
+-- so what a device has still is its own
+pub own_kept : (start : Healths) (config : Config) (k : ℕ) (old new : DevicesKnown) → StillTell start old → SameOwn old new
+    → HasOwn start config k old → HasOwn start config k new
+own_kept start config k old new still same has = record {
+  disk = one.named_kept disks start.disk config k old.disk new.disk still.disk same.disk has.disk;
+  link = one.named_kept links start.link config k old.link new.link still.link same.link has.link;
+  vsock = one.named_kept vsocks start.vsock config k old.vsock new.vsock still.vsock same.vsock has.vsock;
+}
 
-pub files_asked : (op : Op) (actor : ActorId) (reply : Reply) (old new : DiskKnown) → AsksDisk op actor reply old new
-    → SameFiles old new
-files_asked (Op.Out act) actor reply old new asks = files_call actor act reply old new asks
-files_asked op actor reply old new asks = files_rest old new asks
-
-pub files_was : (es : List Entry) (old new : DiskKnown) → DiskWasAsked old es new → SameFiles old new
-files_was [] old new was = files_rest old new was
-files_was (e ∷ es) old new was =
-    files_more old was.0 new (files_asked e.op e.actor e.reply old was.0 was.1) (files_was es was.0 new was.2)
-
--- so what was a drive's file still is
-
-pub file_kept : (start : Health) (config : Config) (k : ℕ) (old new : DiskKnown) → (Tells start → Tells old.health)
-    → SameFiles old new → HasFile start config k old → HasFile start config k new
-file_kept start config k old new still same has tells drive is =
-    subst (λ (f : ℕ → Attached). IsOf drive.path_on_host (f k)) (sym (same.files (still tells))) (has tells drive is)
-
-pub files_kept : (start : Health) (guest : Option Guest) (config : Config) (old new : DiskKnown) → (Tells start → Tells old.health)
-    → SameFiles old new → HasFilesBy start guest config old → HasFilesBy start guest config new
-files_kept start None config old new still same has = tt
-files_kept start (Some g) config old new still same has =
-    λ k less. file_kept start config k old new still same (has k less)
-
--- and was it before
-pub own_before : (start : Health) (config : Config) (actor : ActorId) (old new : DiskKnown) → (Tells start → Tells old.health)
-    → SameFiles old new → HasOwnFile start config actor new → HasOwnFile start config actor old
-own_before start config (ActorId.Device k) old new still same has = λ tells drive is.
-    subst (λ (f : ℕ → Attached). IsOf drive.path_on_host (f k)) (same.files (still tells)) (has tells drive is)
+-- and was before
+pub own_before : (start : Healths) (config : Config) (actor : ActorId) (old new : DevicesKnown) → StillTell start old → SameOwn old new
+    → ActorHasOwn start config actor new → ActorHasOwn start config actor old
+own_before start config (ActorId.Device k) old new still same has = record {
+  disk = one.named_before disks start.disk config k old.disk new.disk still.disk same.disk has.disk;
+  link = one.named_before links start.link config k old.link new.link still.link same.link has.link;
+  vsock = one.named_before vsocks start.vsock config k old.vsock new.vsock still.vsock same.vsock has.vsock;
+}
 own_before start config actor old new still same has = tt
+
+-- objects that are configured if they told their content later are so if they did at the start
+pub own_since : (start : Healths) (old : DevicesKnown) (m : Machine) (now : DevicesKnown) → StillTell start old
+    → HaveOwn (healths old) m now → HaveOwn start m now
+own_since start old m now still has = record {
+  disk = one.named_since disks start.disk old.disk.health m.guest m.config now.disk still.disk has.disk;
+  link = one.named_since links start.link old.link.health m.guest m.config now.link still.link has.link;
+  vsock = one.named_since vsocks start.vsock old.vsock.health m.guest m.config now.vsock still.vsock has.vsock;
+}
 
 -- ---- events of devices that have a port, and hear no more of a socket than an act gives
 
@@ -100,10 +103,10 @@ HasPort actor = Unit {0}
 abbrev pub HavePorts : List Entry → Type 0
 HavePorts es = AllByRecursion (λ (e : Entry). HasPort e.actor × IsHeard e.actor e.op e.reply) es
 
-pub own_file : (start : Health) (config : Config) (actor : ActorId) (disk : DiskKnown) → HasPort actor
-    → ((k : ℕ) → k < most_ports → HasFile start config k disk) → HasOwnFile start config actor disk
-own_file start config (ActorId.Device k) disk port files = files k port
-own_file start config actor disk port files = tt
+pub actor_own : (start : Healths) (config : Config) (actor : ActorId) (known : DevicesKnown) → HasPort actor
+    → ((k : ℕ) → k < most_ports → HasOwn start config k known) → ActorHasOwn start config actor known
+actor_own start config (ActorId.Device k) known port own = own k port
+actor_own start config actor known port own = tt
 
 other_port : (actor : ActorId) (op : Op) (reply : Reply) → IsOther actor → HasPort actor × IsHeard actor op reply
 other_port ActorId.Timer op reply other = (tt, tt)
@@ -142,9 +145,3 @@ ports_split (suc n) [] ports = (tt, tt)
 ports_split (suc n) (e ∷ es) ports =
     let rest = ports_split n es ports.1 in
     ((ports.0, rest.0), rest.1)
-
--- disks that are a drive's files if they told their content later are so if they did at the start
-pub files_since : (start later : Health) (guest : Option Guest) (config : Config) (disk : DiskKnown) → (Tells start → Tells later)
-    → HasFilesBy later guest config disk → HasFilesBy start guest config disk
-files_since start later None config disk still has = tt
-files_since start later (Some g) config disk still has = λ k less tells. has k less (still tells)

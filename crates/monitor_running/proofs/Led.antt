@@ -30,18 +30,17 @@ use Rattle.vm_types.specs.declared.op.OutOp.TheVariants.{DiskFlush, DiskRead, Di
 use Rattle.vm_types.specs.Fits.{out_fits}
 use Rattle.serve_host.specs.Events.{event_items, frame_reply, host_reply, item_by, item_of}
 use Rattle.flat_trace.specs.Events.{drain_items, event_acts, quiet_act}
-use Rattle.vm_host.specs.Storing.{DiskKnown}
-use Rattle.vm_outside.specs.Known.{Health, Tells}
 use Rattle.port_table.specs.Window.{most_ports}
-use Rattle.monitor_machine.specs.Disks.{HasFile, HasFiles, HasFilesBy}
-use Rattle.monitor_machine.proofs.Attaching.{uncalled_none}
-use Rattle.monitor_running.specs.Asked.{DisksAnswered, HasOwnFile, ItemAsks}
-use Rattle.monitor_running.specs.Devices.{AsksDisk, DiskWasAsked, IsHeard, IsShort}
+use Rattle.vm_outside.specs.Known.{Health}
+use Rattle.monitor_machine.specs.Kinds.{DevicesKnown, disks, links, vsocks}
+use Rattle.monitor_machine.specs.Objects.{AreNamed, AreNamedBy, Named, ObjectKind}
+use Rattle.monitor_running.specs.Asked.{ActorHasOwn, DevicesAnswered, HasOwn, Healths, ItemAsks}
+use Rattle.monitor_running.specs.Devices.{AsksDevices, IsHeard, IsShort, WereAsked}
 use Rattle.monitor_running.specs.Items.{drained_world}
-use Rattle.monitor_running.specs.Reached.{NoLineage, gives_lineage}
-use Rattle.monitor_running.proofs.Attached.{HavePorts, file_kept, files_asked, own_file}
-use Rattle.monitor_running.proofs.Disks.{rests_same, rests_uncalled}
-use Rattle.monitor_running.proofs.Joins.{none_given, one_given}
+use Rattle.monitor_running.specs.Reached.{AreOwn, NoLineage, Seen, Start, gives_lineage, told_at}
+use Rattle.monitor_running.proofs.Attached.{HavePorts, StillTell, actor_own, own_asked, own_kept, tell_on}
+use Rattle.monitor_running.proofs.Events.{rests_same, rests_uncalled}
+use Rattle.monitor_running.proofs.Joins.{none_given, one_given, uncalled_none}
 use Rattle.flat_trace.specs.Showing.{HasEvent, Out, Run, TraceStep, items_of, said, shown}
 use Rattle.flat_trace.specs.Showing.Out.{Quiet, Shown}
 use Rattle.flat_trace.proofs.Lines.{guest_is}
@@ -57,11 +56,19 @@ some_runs guest false g h is = refl
 pub still_runs : (m : Machine) (g h : Guest) → running m ≡ Some g → running (with_guest m h) ≡ Some h
 still_runs m g h is = some_runs m.guest m.paused g h is
 
--- the disks of its devices are the files of its drives
-pub guest_files : (start : Health) (m : Machine) (g : Guest) (disk : DiskKnown) → running m ≡ Some g → HasFiles start m disk
-    → (k : ℕ) → k < most_ports → HasFile start m.config k disk
-guest_files start m g disk runs files =
-    subst (λ (o : Option Guest). HasFilesBy start o m.config disk) (guest_is m g runs) files
+-- each of its devices has its own objects
+guest_named : {K : Type 0} (kind : ObjectKind K) (start : Health) (m : Machine) (g : Guest) (now : K) → running m ≡ Some g
+    → AreNamed kind start m now → (k : ℕ) → k < most_ports → Named kind start m.config k now
+guest_named kind start m g now runs named =
+    subst (λ (o : Option Guest). AreNamedBy kind start o m.config now) (guest_is m g runs) named
+
+pub guest_own : (s : Start) (m : Machine) (g : Guest) (now : Seen) → running m ≡ Some g → AreOwn s m now
+    → (k : ℕ) → k < most_ports → HasOwn (told_at s) m.config k now.host.devices
+guest_own s m g now runs own k less = record {
+  disk = guest_named disks (told_at s).disk m g now.host.devices.disk runs own.disk k less;
+  link = guest_named links (told_at s).link m g now.host.devices.link runs own.link k less;
+  vsock = guest_named vsocks (told_at s).vsock m g now.host.devices.vsock runs own.vsock k less;
+}
 
 -- ---- an event
 
@@ -175,8 +182,8 @@ module _ (m : Machine) (g mid : Guest) (e : Entry) (sound : IsSound g) (runs : r
   pub told : TraceStep (item_of e) [] m Quiet (with_guest m mid)
   told = told_by e.op refl
 
-  module _ (start : Health) (old now : DiskKnown) (own : HasOwnFile start m.config e.actor old) where
-    asks_by : (op : Op) → e.op ≡ op → AsksDisk op e.actor e.reply old now
+  module _ (start : Healths) (old now : DevicesKnown) (own : ActorHasOwn start m.config e.actor old) where
+    asks_by : (op : Op) → e.op ≡ op → AsksDevices op e.actor e.reply old now
         → ItemAsks start (item_by op e.actor e.reply) m.config (running m) old now
     asks_by (Op.Out act) is asks =
         let reads : reply_given (host_reply e.reply) ≡ Host e.reply =
@@ -185,7 +192,7 @@ module _ (m : Machine) (g mid : Guest) (e : Entry) (sound : IsSound g) (runs : r
         (own, Op.Out act, e.reply, subst (λ (o : Op). Wants g e.actor o) is step.want, reads, asks)
     asks_by op is asks = rests_uncalled old now asks
 
-    pub asks : AsksDisk e.op e.actor e.reply old now → ItemAsks start (item_of e) m.config (running m) old now
+    pub asks : AsksDevices e.op e.actor e.reply old now → ItemAsks start (item_of e) m.config (running m) old now
     asks asked = asks_by e.op refl asked
 
 -- ---- events
@@ -230,20 +237,20 @@ events_run (e ∷ es) m g h sound runs leads ports = (
       ports.1,
 )
 
--- and the disks were asked in it what they were asked in the events
+-- and the objects of devices were asked in it what they were asked in the events
 pub events_answered : (es : List Entry) (m : Machine) (g h : Guest) (sound : IsSound g) (runs : running m ≡ Some g) (leads : Leads g es h)
-    (ports : HavePorts es) (start : Health) (old now : DiskKnown) → (Tells start → Tells old.health)
-    → ((k : ℕ) → k < most_ports → HasFile start m.config k old) → DiskWasAsked old es now
-    → DisksAnswered start (event_acts es) m (quiets es) (with_guest m h) (events_run es m g h sound runs leads ports) old now
+    (ports : HavePorts es) (start : Healths) (old now : DevicesKnown) → StillTell start old
+    → ((k : ℕ) → k < most_ports → HasOwn start m.config k old) → WereAsked old es now
+    → DevicesAnswered start (event_acts es) m (quiets es) (with_guest m h) (events_run es m g h sound runs leads ports) old now
 unfolding events_run
-events_answered [] m g h sound runs leads ports start old now still files was = was
-events_answered (e ∷ es) m g h sound runs leads ports start old now still files was =
-    let same = files_asked e.op e.actor e.reply old was.0 was.1 in (
+events_answered [] m g h sound runs leads ports start old now still own was = was
+events_answered (e ∷ es) m g h sound runs leads ports start old now still own was =
+    let same = own_asked e.op e.actor e.reply old was.0 was.1 in (
       was.0,
-      asks m g leads.0 e sound runs leads.1 ports.0.1 start old was.0 (own_file start m.config e.actor old ports.0.0 files) was.1,
+      asks m g leads.0 e sound runs leads.1 ports.0.1 start old was.0 (actor_own start m.config e.actor old ports.0.0 own) was.1,
       events_answered es (with_guest m leads.0) leads.0 h (sound_next g (event_of e) e leads.0 sound leads.1)
-          (still_runs m g leads.0 runs) leads.2 ports.1 start was.0 now (λ tells. same.lasts.still (still tells))
-          (λ k less. file_kept start m.config k old was.0 still same (files k less)) was.2,
+          (still_runs m g leads.0 runs) leads.2 ports.1 start was.0 now (tell_on start old was.0 still same)
+          (λ k less. own_kept start m.config k old was.0 still same (own k less)) was.2,
     )
 
 -- the first of the events, and the others
@@ -297,12 +304,12 @@ drain_run m h [] is =
 drain_run m h (byte ∷ bytes) is =
     (Shown (byte ∷ bytes), with_guest m (drained_guest h), [], refl, (ap Shown is, (refl, (refl, refl))), (refl, refl))
 
--- which asks no disk
+-- which asks no object of a device
 pub drain_answered : (m : Machine) (h : Guest) (bytes : List ℕ) (run : Run (drain_acts bytes) (with_guest m h) (drain_outs bytes) (with_guest m (drained_guest h)))
-    (start : Health) (disk : DiskKnown)
-    → DisksAnswered start (drain_acts bytes) (with_guest m h) (drain_outs bytes) (with_guest m (drained_guest h)) run disk disk
-drain_answered m h [] run start disk = rests_same disk
-drain_answered m h (byte ∷ bytes) run start disk = (disk, uncalled_none disk, rests_same disk)
+    (start : Healths) (known : DevicesKnown)
+    → DevicesAnswered start (drain_acts bytes) (with_guest m h) (drain_outs bytes) (with_guest m (drained_guest h)) run known known
+drain_answered m h [] run start known = rests_same known
+drain_answered m h (byte ∷ bytes) run start known = (known, uncalled_none known, rests_same known)
 
 pub drained_is : (w : WorldValue) (g : Guest) → IsWorld w g → IsWorld (drained_world w) (drained_guest g)
 drained_is w g is = record {

@@ -14,10 +14,10 @@ use Rattle.monitor_running.specs.declared.ran.Ran.{Ran}
 use Rattle.monitor_running.specs.declared.ran.Ran.TheVariants as ran
 use Rattle.monitor_running.specs.Asked.{HostKnown}
 use Rattle.monitor_running.specs.Ran.{HasFault, IsOff, IsRunning, RanOn, Went}
-use Rattle.monitor_running.specs.Reached.{AreFiles, Keeps, KeepsAs, Kept, Known, Reached, Seen, Start, known, seen}
+use Rattle.monitor_running.specs.Reached.{AreOwn, Keeps, KeepsAs, Kept, Known, Reached, Seen, Start, known, seen}
 use Rattle.flat_trace.specs.Showing.{Out}
-use Rattle.monitor_running.proofs.Attached.{files_rest}
-use Rattle.monitor_running.proofs.Joins.{HostRests, rests, still_files}
+use Rattle.monitor_running.proofs.Attached.{own_rest}
+use Rattle.monitor_running.proofs.Joins.{HostRests, rests, still_own}
 use Rattle.flat_trace.proofs.Lines.{guest_is}
 
 -- ---- what an object told, call after call
@@ -36,24 +36,24 @@ module _ {B : Type 0} (Is : B → Machine → Type 0) (old mid now : Seen) (b c 
   abbrev kept_after : (s : Start) (m : Machine) (talk : List Out) (k : Kept Is s m mid c talk) (last : Seen) (e : B)
       → Kept Is s k.flat last e talk → Kept Is s m last e talk
   kept_after s m talk k last e n =
-      record { flat = n.flat; is = n.is; beside = joined m k.flat n.flat k.beside n.beside; files = n.files; reached = n.reached }
+      record { flat = n.flat; is = n.is; beside = joined m k.flat n.flat k.beside n.beside; own = n.own; reached = n.reached }
 
   keeps_on : Keeps Is mid c now d → Keeps Is old b now d
   keeps_on more s m talk is f r =
       let k = keeps s m talk is f r in
-      kept_after s m talk k now d (more s k.flat talk k.is k.files k.reached)
+      kept_after s m talk k now d (more s k.flat talk k.is k.own k.reached)
 
   ran_on : (end : Option Ran) → RanOn Is end mid c now d → RanOn Is end old b now d
   ran_on None on = keeps_on on
   ran_on (Some ran.Closed) on = λ s m talk is f r.
       let k = keeps s m talk is f r in
-      let n = on s k.flat talk k.is k.files k.reached in (kept_after s m talk k now d n.0, n.1)
+      let n = on s k.flat talk k.is k.own k.reached in (kept_after s m talk k now d n.0, n.1)
   ran_on (Some ran.Off) on = λ s m talk is f r.
       let k = keeps s m talk is f r in
-      let n = on s k.flat talk k.is k.files k.reached in (kept_after s m talk k now d n.0, n.1)
+      let n = on s k.flat talk k.is k.own k.reached in (kept_after s m talk k now d n.0, n.1)
   ran_on (Some ran.TraceFailed) on = λ s m talk is f r.
       let k = keeps s m talk is f r in
-      let n = on s k.flat talk k.is k.files k.reached in record {
+      let n = on s k.flat talk k.is k.own k.reached in record {
         told = n.told;
         host = n.host;
         reached = n.reached;
@@ -64,7 +64,7 @@ module _ {B : Type 0} (Is : B → Machine → Type 0) (old mid now : Seen) (b c 
       }
   ran_on (Some ran.SinkFailed) on = λ s m talk is f r.
       let k = keeps s m talk is f r in
-      let n = on s k.flat talk k.is k.files k.reached in
+      let n = on s k.flat talk k.is k.own k.reached in
       (n.0, kept_after s m talk k (record now { taken = now.taken ++ n.0 }) d n.1)
   ran_on (Some ran.OutOfMemory) on = keeps_on on
 
@@ -75,7 +75,7 @@ keeps_same Is old now b same s m talk is f r =
       flat = m;
       is = is;
       beside = refl;
-      files = subst (λ (x : Seen). AreFiles s m x) (sym same) f;
+      own = subst (λ (x : Seen). AreOwn s m x) (sym same) f;
       reached = subst (λ (x : Seen). Reached s x m talk) (sym same) r;
     }
 
@@ -87,7 +87,7 @@ keeps_resting Is old now b told sunk rest s m talk is f r =
       flat = m;
       is = is;
       beside = refl;
-      files = still_files s old now m talk r (files_rest old.host.disk now.host.disk rest.disk) f;
+      own = still_own s old now m talk r (own_rest old.host.devices now.host.devices rest.devices) f;
       reached = rests s old now m talk r told sunk rest;
     }
 
@@ -143,7 +143,7 @@ module _ (live after : LiveMachine) (old now : Seen) (w v : WorldValue) (some : 
     flat = k.flat;
     is = subst (λ (x : LiveMachine). IsLive x k.flat) (sym back) (lives_on live m k.flat v is k.beside k.is);
     beside = k.beside;
-    files = k.files;
+    own = k.own;
     reached = k.reached;
   }
 

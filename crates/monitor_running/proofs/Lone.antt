@@ -21,7 +21,7 @@ use Rattle.monitor_running.specs.Asked.{HostKnown}
 use Rattle.monitor_running.specs.Waiting.{IsAlone, OthersIdle}
 use Rattle.monitor_running.proofs.Asked.{hart_asks}
 use Rattle.monitor_running.proofs.Attached.{ports_hart}
-use Rattle.monitor_running.proofs.Disks.{hart_rests, unasked_hart}
+use Rattle.monitor_running.proofs.Events.{hart_rests, unasked_hart}
 use Rattle.monitor_running.proofs.Going.{step_told}
 use Rattle.monitor_running.proofs.Led.{items_append}
 use Rattle.monitor_running.proofs.Told.{HostGone}
@@ -65,13 +65,13 @@ own_by k (suc made) (e ∷ es) is =
     let parts = first_same (item_of e) (item.Step (ActorId.Hart k) 1) (event_items es) (steps_of (ActorId.Hart k) made) is in
     (step_actor e.op e.actor e.reply (ActorId.Hart k) parts.0, own_by k made es parts.1)
 
--- so neither the clock nor a disk was asked
+-- so neither the clock nor an object of a device was asked
 pub steps_gone : (k made : ℕ) (w v : WorldValue) (host : HostKnown) → HasRun k made w v
     → HostGone (steps_of (ActorId.Hart k) made) w v host host
 steps_gone k made w v host run g is =
     let one = run g is in
     let own = own_by k made one.0 one.4 in
-    (one.0, one.4, ((one.1, one.2, one.3), hart_rests k host.clock one.0 own, unasked_hart k one.0 host.disk own, ports_hart k one.0 own))
+    (one.0, one.4, ((one.1, one.2, one.3), hart_rests k host.clock one.0 own, unasked_hart k one.0 host.devices own, ports_hart k one.0 own))
 
 -- ---- runs one behind another
 

@@ -8,7 +8,6 @@ use Rattle.vm_outside.specs.Known as objects
 use Rattle.vm_outside.specs.Passing.{TakesPart}
 use Rattle.serve_host.specs.Tracing.{TraceKnown, TraceStays}
 use Rattle.script_text.specs.declared.item.Item.{Item}
-use Rattle.vm_host.specs.Storing.{DiskKnown}
 use Rattle.vm_host.specs.Telling.{ClockKnown}
 use Rattle.board_table.specs.Board.{Board}
 use Rattle.flat_guest.specs.Guest.{Guest}
@@ -27,28 +26,28 @@ use Rattle.flat_trace.specs.Events.{answers_in, drain_items, event_acts}
 use Rattle.monitor_running.specs.Items.{DrainStops, HasDrained, HasGoneOn, HasKept, MayDrain, TellStops, TellsItems, TellsPart, drained_world}
 use Rattle.monitor_running.specs.Ran.{HasFault, IsRunning, RanOn, Went, end_by}
 use Rattle.monitor_running.specs.Waiting.{HasGone, makers, turns}
-use Rattle.monitor_running.specs.Asked.{HostKnown}
-use Rattle.monitor_running.specs.Devices.{DiskWasAsked, IsDevices}
+use Rattle.monitor_machine.specs.Kinds.{DevicesKnown}
+use Rattle.monitor_running.specs.Asked.{HasOwn, Healths, HostKnown}
+use Rattle.monitor_running.specs.Devices.{IsDevices, WereAsked}
 use Rattle.port_table.specs.Window.{most_ports}
-use Rattle.monitor_machine.specs.Disks.{HasFile}
-use Rattle.monitor_running.specs.Reached.{Ahead, AreFiles, GetsAhead, IsCut, Keeps, Known, Reached, Seen, Start, known, told_at}
+use Rattle.monitor_running.specs.Reached.{Ahead, AreOwn, GetsAhead, IsCut, Keeps, Known, Reached, Seen, Start, known, told_at}
 use Rattle.flat_trace.specs.Showing.{Out}
 use Rattle.flat_guest.specs.Sound.{IsSound}
 use Rattle.monitor_running.proofs.Asked.{answers_same}
 use Rattle.monitor_running.proofs.Sound.{sound_led, world_sound}
-use Rattle.monitor_running.proofs.Attached.{HavePorts, file_kept, files_rest, files_was, ports_devices, ports_split, ports_there, ports_turns}
-use Rattle.monitor_running.proofs.Disks.{asked_split, clock_rests, unasked_there, unasked_turns}
-use Rattle.monitor_running.proofs.Joins.{HostRests, answered_first, answers_append, goes_by, host_same, reached_still, rests, still_files}
-use Rattle.monitor_running.proofs.Led.{acts_items, drain_acts, drain_answered, drain_outs, drain_run, drain_says, drain_shows, drain_told, drain_unlineaged, drained_guest, drained_is, events_answered, events_run, events_unlineaged, guest_files, items_split, leads_split, quiets, quiets_say, quiets_show, still_runs, with_guest}
+use Rattle.monitor_running.proofs.Attached.{HavePorts, StillTell, own_kept, own_rest, own_was, ports_devices, ports_split, ports_there, ports_turns, tell_on}
+use Rattle.monitor_running.proofs.Events.{asked_split, clock_rests, unasked_there, unasked_turns}
+use Rattle.monitor_running.proofs.Joins.{HostRests, answered_first, answers_append, goes_by, host_same, reached_still, rests, still_own}
+use Rattle.monitor_running.proofs.Led.{acts_items, drain_acts, drain_answered, drain_outs, drain_run, drain_says, drain_shows, drain_told, drain_unlineaged, drained_guest, drained_is, events_answered, events_run, events_unlineaged, guest_own, items_split, leads_split, quiets, quiets_say, quiets_show, still_runs, with_guest}
 
 abbrev seen_by : List Item → List ℕ → HostKnown → Seen
 seen_by took taken host = record { took = took; taken = taken; host = host }
 
--- events that lead from this guest to one that the world is, in which the clock and the disks answered; each device has a port, and hears no more of a
--- socket than an act gives
+-- events that lead from this guest to one that the world is, in which the clock and the objects of devices answered; each device has a
+-- port, and hears no more of a socket than an act gives
 abbrev pub GoneFrom : Guest → List Entry → WorldValue → HostKnown → HostKnown → Type 0
 GoneFrom g es new asked now =
-    ((h : Guest) × Leads g es h × IsWorld new h) × ClockWasAsked asked.clock es now.clock × DiskWasAsked asked.disk es now.disk
+    ((h : Guest) × Leads g es h × IsWorld new h) × ClockWasAsked asked.clock es now.clock × WereAsked asked.devices es now.devices
     × HavePorts es
 
 -- there are such from each guest that the world was, and these items tell them
@@ -115,7 +114,7 @@ told_then (Err why) its w v took mid now taken all told drains = stops_then why 
 
 module _ (s : Start) (m : Machine) (talk : List Out) (took : List Item) (taken : List ℕ) (asked now : HostKnown)
     (w v : WorldValue) (es : List Entry) (is : IsRunning w m) (gone : GoneFrom is.0 es v asked now)
-    (files : AreFiles s m (seen_by took taken asked)) (r : Reached s (seen_by took taken asked) m talk) where
+    (files : AreOwn s m (seen_by took taken asked)) (r : Reached s (seen_by took taken asked) m talk) where
   abbrev old : Seen
   old = seen_by took taken asked
 
@@ -131,19 +130,19 @@ module _ (s : Start) (m : Machine) (talk : List Out) (took : List Item) (taken :
   all_asked : HasAnswered asked.clock (answers_in (event_items es)) now.clock
   all_asked = was_asked asked.clock now.clock es is.0 led.0 (world_sound w is.0 is.2) gone.1 led.1
 
-  abbrev first_health : Health
+  abbrev first_health : Healths
   first_health = told_at s
 
-  -- each disk is the file of its drive before and behind
-  files_before : (k : ℕ) → k < most_ports → HasFile first_health m.config k asked.disk
-  files_before = guest_files first_health m is.0 asked.disk is.1 files
+  -- each device has its own objects before and behind
+  own_before : (k : ℕ) → k < most_ports → HasOwn first_health m.config k asked.devices
+  own_before = guest_own s m is.0 (seen_by took taken asked) is.1 files
 
-  still_tells : Tells first_health → Tells asked.disk.health
-  still_tells = reached_still s old m talk r
+  still_tell : StillTell first_health asked.devices
+  still_tell = reached_still s old m talk r
 
-  files_behind : (k : ℕ) → k < most_ports → HasFile first_health m.config k now.disk
-  files_behind k less =
-      file_kept first_health m.config k asked.disk now.disk still_tells (files_was es asked.disk now.disk gone.2) (files_before k less)
+  own_behind : (k : ℕ) → k < most_ports → HasOwn first_health m.config k now.devices
+  own_behind k less =
+      own_kept first_health m.config k asked.devices now.devices still_tell (own_was es asked.devices now.devices gone.2) (own_before k less)
 
   -- all events are told
   events_told : Reached s (seen_by (took ++ event_items es) taken now) after talk
@@ -154,7 +153,7 @@ module _ (s : Start) (m : Machine) (talk : List Out) (took : List Item) (taken :
       (sym (append-nil taken) ∙ ap (λ (l : List ℕ). taken ++ l) (sym (quiets_show es))) (quiets_say es)
       (record {
         clock = subst (λ (l : List Item). HasAnswered asked.clock (answers_in l) now.clock) (sym (acts_items es)) all_asked;
-        disk = events_answered es m is.0 led.0 sound is.1 led.1 gone.3 first_health asked.disk now.disk still_tells files_before gone.2;
+        devices = events_answered es m is.0 led.0 sound is.1 led.1 gone.3 first_health asked.devices now.devices still_tell own_before gone.2;
       })
       (events_unlineaged es)
 
@@ -174,7 +173,7 @@ module _ (s : Start) (m : Machine) (talk : List Out) (took : List Item) (taken :
       (ap (λ (l : List ℕ). taken ++ l) (sym (drain_shows bytes))) (drain_says bytes)
       (record {
         clock = subst (λ (l : List Item). HasAnswered now.clock (answers_in l) now.clock) (sym (drain_told bytes)) (unasked bytes);
-        disk = drain_answered m led.0 bytes (drain_run m led.0 bytes console_is) first_health now.disk;
+        devices = drain_answered m led.0 bytes (drain_run m led.0 bytes console_is) first_health now.devices;
       })
       (drain_unlineaged bytes)
     where
@@ -197,10 +196,10 @@ module _ (s : Start) (m : Machine) (talk : List Out) (took : List Item) (taken :
       ap answers_in (items_split n es) ∙ answers_append (event_items (take n es)) (event_items (drop n es)) in
       let clocks = answered_first asked.clock now.clock (answers_in (event_items (take n es))) (answers_in (event_items (drop n es)))
       (subst (λ (l : List ℕ). HasAnswered asked.clock l now.clock) answers all_asked) in
-      let disks = asked_split n es asked.disk now.disk gone.2 in
+      let parted = asked_split n es asked.devices now.devices gone.2 in
       let ports = ports_split n es gone.3 in
-      let same = files_was (take n es) asked.disk disks.0 disks.1 in
-      let mid : HostKnown = record { clock = clocks.0; disk = disks.0 } in
+      let same = own_was (take n es) asked.devices parted.0 parted.1 in
+      let mid : HostKnown = record { clock = clocks.0; devices = parted.0 } in
       let front : Seen = seen_by (took ++ event_items (take n es)) taken mid in
       let sound = world_sound w is.0 is.2 in
       let led_sound = sound_led (take n es) is.0 parts.0 sound parts.1 in
@@ -213,7 +212,7 @@ module _ (s : Start) (m : Machine) (talk : List Out) (took : List Item) (taken :
             (sym (append-nil taken) ∙ ap (λ (l : List ℕ). taken ++ l) (sym (quiets_show (take n es)))) (quiets_say (take n es))
             (record {
               clock = subst (λ (l : List Item). HasAnswered asked.clock (answers_in l) clocks.0) (sym (acts_items (take n es))) clocks.1;
-              disk = events_answered (take n es) m is.0 parts.0 sound is.1 parts.1 ports.0 first_health asked.disk disks.0 still_tells files_before disks.1;
+              devices = events_answered (take n es) m is.0 parts.0 sound is.1 parts.1 ports.0 first_health asked.devices parted.0 still_tell own_before parted.1;
             })
             (events_unlineaged (take n es));
         flat = after;
@@ -225,9 +224,9 @@ module _ (s : Start) (m : Machine) (talk : List Out) (took : List Item) (taken :
           unsaid = quiets_say (drop n es);
           answered = record {
             clock = subst (λ (l : List Item). HasAnswered clocks.0 (answers_in l) now.clock) (sym (acts_items (drop n es))) clocks.2;
-            disk = events_answered (drop n es) (with_guest m parts.0) parts.0 led.0 led_sound runs parts.2 ports.1 first_health disks.0 now.disk
-                (λ tells. same.lasts.still (still_tells tells))
-                (λ k less. file_kept first_health m.config k asked.disk disks.0 still_tells same (files_before k less)) disks.2;
+            devices = events_answered (drop n es) (with_guest m parts.0) parts.0 led.0 led_sound runs parts.2 ports.1 first_health parted.0 now.devices
+                (tell_on first_health asked.devices parted.0 still_tell same)
+                (λ k less. own_kept first_health m.config k asked.devices parted.0 still_tell same (own_before k less)) parted.2;
           };
         };
         is = (led.0, after_runs, led.2);
@@ -238,25 +237,34 @@ module _ (s : Start) (m : Machine) (talk : List Out) (took : List Item) (taken :
 
 -- what a slice says of its events
 pub slice_gone : (es : List Entry) (w v : WorldValue) (asked now : HostKnown) → IsSerial w es v
-    → All (λ (e : Entry). IsThere (length w.harts) e.actor) es → ClockWasAsked asked.clock es now.clock → now.disk ≡ asked.disk
+    → All (λ (e : Entry). IsThere (length w.harts) e.actor) es → ClockWasAsked asked.clock es now.clock → now.devices ≡ asked.devices
     → EventsGone es w v asked now
 slice_gone es w v asked now serial there was same g is =
-    (serial g is, was, rw same (unasked_there (length w.harts) es asked.disk there), ports_there (length w.harts) es there)
+    (serial g is, was, rw same (unasked_there (length w.harts) es asked.devices there), ports_there (length w.harts) es there)
 
 -- what a round says
-pub round_gone : (but : Option ℕ) (es : List Entry) (w v : WorldValue) (asked now : ClockKnown) (disk : DiskKnown)
+pub round_gone : (but : Option ℕ) (es : List Entry) (w v : WorldValue) (asked now : ClockKnown) (devices : DevicesKnown)
     → HasGone es w v asked now → ((g : Guest) → IsWorld w g → makers es ≡ turns but (length w.harts))
-    → EventsGone es w v (record { clock = asked; disk = disk }) (record { clock = now; disk = disk })
-round_gone but es w v asked now disk gone made g is =
+    → EventsGone es w v (record { clock = asked; devices = devices }) (record { clock = now; devices = devices })
+round_gone but es w v asked now devices gone made g is =
     let actors = made g is in
-    ((gone g is).0, (gone g is).1, unasked_turns but (length w.harts) es disk actors, ports_turns but (length w.harts) es actors)
+    ((gone g is).0, (gone g is).1, unasked_turns but (length w.harts) es devices actors, ports_turns but (length w.harts) es actors)
 
 -- and what the devices' events say
-pub devices_gone : (es : List Entry) (w v : WorldValue) (clock : ClockKnown) (asked now : DiskKnown) → IsSerial w es v
-    → ((g : Guest) → IsWorld w g → All IsDevices es) → ((g : Guest) → IsWorld w g → DiskWasAsked asked es now)
-    → EventsGone es w v (record { clock = clock; disk = asked }) (record { clock = clock; disk = now })
+pub devices_gone : (es : List Entry) (w v : WorldValue) (clock : ClockKnown) (asked now : DevicesKnown) → IsSerial w es v
+    → ((g : Guest) → IsWorld w g → All IsDevices es) → ((g : Guest) → IsWorld w g → WereAsked asked es now)
+    → EventsGone es w v (record { clock = clock; devices = asked }) (record { clock = clock; devices = now })
 devices_gone es w v clock asked now serial made was g is =
     (serial g is, clock_rests clock es (made g is), was g is, ports_devices es (made g is))
+
+-- what each device has, all of a guest's have
+own_all : (s : Start) (m : Machine) (g : Guest) (now : Seen) → ((k : ℕ) → k < most_ports → HasOwn (told_at s) m.config k now.host.devices)
+    → AreOwn s (with_guest m g) now
+own_all s m g now own = record {
+  disk = λ k less. (own k less).disk;
+  link = λ k less. (own k less).link;
+  vsock = λ k less. (own k less).vsock;
+}
 
 items_told : (took took' : List Item) (taken taken' : List ℕ) (asked mid now : HostKnown) (w v u : WorldValue) (its : List Item)
     → HostGone its w v asked mid → HasDrained v took its u took' → taken' ≡ taken ++ v.board.console → HostRests mid now
@@ -270,8 +278,8 @@ items_told took took' taken taken' asked mid now w v u its gone drained sunk res
       flat = with_guest m (drained_guest h.0);
       is = drained_runs s m talk took taken asked mid w v es is one.2 f r u drained.world;
       beside = refl;
-      files = still_files s last (seen_by took' taken' now) (with_guest m (drained_guest h.0)) talk all (files_rest mid.disk now.disk rest.disk)
-          (files_behind s m talk took taken asked mid w v es is one.2 f r);
+      own = still_own s last (seen_by took' taken' now) (with_guest m (drained_guest h.0)) talk all (own_rest mid.devices now.devices rest.devices)
+          (own_all s m (drained_guest h.0) last (own_behind s m talk took taken asked mid w v es is one.2 f r));
       reached = rests s last (seen_by took' taken' now) (with_guest m (drained_guest h.0)) talk all
           (drained.told ∙ ap (λ (l : List Item). took ++ (l ++ drain_items v.board.console)) (sym one.1)) sunk rest;
     }
@@ -288,8 +296,9 @@ items_kept took took' taken taken' asked mid now w v u its gone kept rest s m ta
       flat = with_guest m h.0;
       is = (h.0, still_runs m is.0 h.0 is.1, subst (λ (x : WorldValue). IsWorld x h.0) (sym kept.world) h.2);
       beside = refl;
-      files = still_files s (seen_by (took ++ event_items es) taken mid) (seen_by took' taken' now) (with_guest m h.0) talk all
-          (files_rest mid.disk now.disk rest.disk) (files_behind s m talk took taken asked mid w v es is one.2 f r);
+      own = still_own s (seen_by (took ++ event_items es) taken mid) (seen_by took' taken' now) (with_guest m h.0) talk all
+          (own_rest mid.devices now.devices rest.devices)
+          (own_all s m h.0 (seen_by (took ++ event_items es) taken mid) (own_behind s m talk took taken asked mid w v es is one.2 f r));
       reached = rests s (seen_by (took ++ event_items es) taken mid) (seen_by took' taken' now) (with_guest m h.0) talk all
           (kept.told ∙ ap (λ (l : List Item). took ++ l) (sym one.1)) kept.sunk rest;
     }
@@ -339,7 +348,7 @@ slice_none took taken asked now w v same unasked s m talk is f r = record {
   flat = m;
   is = subst (λ (x : WorldValue). IsRunning x m) (sym same) is;
   beside = refl;
-  files = subst (λ (k : HostKnown). AreFiles s m (seen_by took taken k)) (sym unasked) f;
+  own = subst (λ (k : HostKnown). AreOwn s m (seen_by took taken k)) (sym unasked) f;
   reached = subst (λ (k : HostKnown). Reached s (seen_by took taken k) m talk) (sym unasked) r;
 }
 
@@ -409,11 +418,11 @@ went_untold end why trace traced sink sunk asked now w v u es told is same gone 
     let own : EventsGone told w v asked now = subst (λ (l : List Entry). EventsGone l w v asked now) (sym same) gone in
     went_items_untold end why trace traced sink sunk asked now w v u (event_items told) is (events_host told w v asked now own)
 
--- no slice, and no disk was asked
-pub went_failed : (trace : TraceKnown) (sink : SinkKnown) (asked now : HostKnown) (w v : WorldValue) → now.disk ≡ asked.disk → v ≡ w → now.clock ≡ asked.clock
+-- no slice, and no object of a device was asked
+pub went_failed : (trace : TraceKnown) (sink : SinkKnown) (asked now : HostKnown) (w v : WorldValue) → now.devices ≡ asked.devices → v ≡ w → now.clock ≡ asked.clock
     → Went IsRunning (Some ran.OutOfMemory) (known trace sink asked) w (known trace sink now) v
-went_failed trace sink asked now w v disk world clock = record {
-  ran = λ t k. slice_none trace.took sink.taken asked now w v world (λ j. record { clock = clock j; disk = disk j });
+went_failed trace sink asked now w v devices world clock = record {
+  ran = λ t k. slice_none trace.took sink.taken asked now w v world (λ j. record { clock = clock j; devices = devices j });
   fault = tt;
   trace_lasts = lasts_same trace.health;
   trace_stays = λ tells. refl;
@@ -421,16 +430,16 @@ went_failed trace sink asked now w v disk world clock = record {
 }
 
 -- a slice that wasn't made, before which pages were
-pub went_unmade : (trace : TraceKnown) (sink : SinkKnown) (asked now : HostKnown) (w v : WorldValue) → now.disk ≡ asked.disk
+pub went_unmade : (trace : TraceKnown) (sink : SinkKnown) (asked now : HostKnown) (w v : WorldValue) → now.devices ≡ asked.devices
     → IsSameGuest w v → now.clock ≡ asked.clock
     → Went IsRunning (Some ran.OutOfMemory) (known trace sink asked) w (known trace sink now) v
-went_unmade trace sink asked now w v disk same clock = record {
+went_unmade trace sink asked now w v devices same clock = record {
   ran = λ t k s m talk is f r.
-      let unasked : now ≡ asked = λ j. record { clock = clock j; disk = disk j } in record {
+      let unasked : now ≡ asked = λ j. record { clock = clock j; devices = devices j } in record {
         flat = m;
         is = (is.0, is.1, same_world w v is.0 same is.2);
         beside = refl;
-        files = subst (λ (k : HostKnown). AreFiles s m (seen_by trace.took sink.taken k)) (sym unasked) f;
+        own = subst (λ (k : HostKnown). AreOwn s m (seen_by trace.took sink.taken k)) (sym unasked) f;
         reached = subst (λ (k : HostKnown). Reached s (seen_by trace.took sink.taken k) m talk) (sym unasked) r;
       };
   fault = tt;

@@ -1,10 +1,12 @@
--- What a run asked of the objects that actors ask, the clock and the disks.
-use Rattle.std.specs.Prelude.{◌≡◌, List, [], ◌∷◌, Option, Some}
+-- What a run asked of the objects that actors ask: the clock, and the disks, links and sockets of devices.
+use Rattle.std.specs.Prelude.{ℕ, ◌≡◌, List, [], ◌∷◌, Option, Some}
 use Rattle.vm_types.specs.declared.ids.ActorId.{ActorId}
 use Rattle.vm_types.specs.declared.op.Op.{Op}
 use Rattle.vm_types.specs.declared.reply.Reply.{Reply}
 use Rattle.vm_outside.specs.Known.{Health}
 use Rattle.vm_host.specs.declared.host.Host.{Host}
+use Rattle.vm_host.specs.Framing.{LinkKnown}
+use Rattle.vm_host.specs.Hosting.{VsockKnown}
 use Rattle.vm_host.specs.Storing.{DiskKnown}
 use Rattle.vm_host.specs.Telling.{ClockKnown}
 use Rattle.vm_config.specs.declared.config.Config.{Config}
@@ -18,44 +20,76 @@ use Rattle.flat_machine.specs.Run.{Act}
 use Rattle.flat_trace.specs.Events.{answers_in}
 use Rattle.flat_trace.specs.Showing.{Out, Run, items_of}
 use Rattle.slice_runner.specs.Runs.{HasAnswered}
-use Rattle.monitor_machine.specs.Disks.{DiskUncalled, HasFile}
-use Rattle.monitor_running.specs.Devices.{AsksDisk, DiskRests}
+use Rattle.monitor_machine.specs.Kinds.{DevicesKnown, disks, links, vsocks}
+use Rattle.monitor_machine.specs.Objects.{AreNamed, Named, Uncalled}
+use Rattle.monitor_running.specs.Devices.{AsksDevices, DevicesRest}
 
--- what is known of the clock and of the disks
+-- what is known of the clock, and of the objects that devices ask
 pub record HostKnown : Type 0 where
   pub clock : ClockKnown
-  pub disk : DiskKnown
+  pub devices : DevicesKnown
 
-abbrev pub host_known : {D L V C : Type 0} → (C → ClockKnown) → (D → DiskKnown) → Host D L V C → HostKnown
-host_known clock disk host = record { clock = clock host.clock; disk = disk host.disk }
+abbrev pub host_known : {D L V C : Type 0} → (C → ClockKnown) → (D → DiskKnown) → (L → LinkKnown) → (V → VsockKnown) → Host D L V C
+    → HostKnown
+host_known clock disk link vsock host = record {
+  clock = clock host.clock;
+  devices = record { disk = disk host.disk; link = link host.link; vsock = vsock host.vsock };
+}
 
--- the actor's disk, if it is a device, is the file that its drive names
-abbrev pub HasOwnFile : Health → Config → ActorId → DiskKnown → Type 0
-HasOwnFile start config (ActorId.Device k) disk = HasFile start config k disk
-HasOwnFile start config actor disk = Unit {0}
+-- the health of each object that devices ask
+pub record Healths : Type 0 where
+  pub disk : Health
+  pub link : Health
+  pub vsock : Health
 
--- A reply item tells the answer to what the actor wants; to a call of a disk, its own disk gave it. In every other item no disk
--- is called, but files may be attached.
-abbrev pub ItemAsks : Health → Item → Config → Option Guest → DiskKnown → DiskKnown → Type 0
+abbrev pub healths : DevicesKnown → Healths
+healths known = record { disk = known.disk.health; link = known.link.health; vsock = known.vsock.health }
+
+-- each object of the device with this number is the one that is configured for it
+pub record HasOwn (start : Healths) (config : Config) (k : ℕ) (now : DevicesKnown) : Type 0 where
+  pub disk : Named disks start.disk config k now.disk
+  pub link : Named links start.link config k now.link
+  pub vsock : Named vsocks start.vsock config k now.vsock
+
+-- the same of every device of a machine, if there is a guest
+pub record HaveOwn (start : Healths) (m : Machine) (now : DevicesKnown) : Type 0 where
+  pub disk : AreNamed disks start.disk m now.disk
+  pub link : AreNamed links start.link m now.link
+  pub vsock : AreNamed vsocks start.vsock m now.vsock
+
+-- the same of the actor, if it is a device
+abbrev pub ActorHasOwn : Healths → Config → ActorId → DevicesKnown → Type 0
+ActorHasOwn start config (ActorId.Device k) now = HasOwn start config k now
+ActorHasOwn start config actor now = Unit {0}
+
+-- none is called, but objects may be attached
+pub record DevicesUncalled (old new : DevicesKnown) : Type 0 where
+  pub disk : Uncalled disks old.disk new.disk
+  pub link : Uncalled links old.link new.link
+  pub vsock : Uncalled vsocks old.vsock new.vsock
+
+-- A reply item tells the answer to what the actor wants; to a call of a device, its own object gave it. In every other item none is
+-- called.
+abbrev pub ItemAsks : Healths → Item → Config → Option Guest → DevicesKnown → DevicesKnown → Type 0
 ItemAsks start (item.Reply actor reply) config (Some g) old new =
-    HasOwnFile start config actor old
-    × (op : Op) × (given : Reply) × Wants g actor op × (reply_given reply ≡ ByHost given) × AsksDisk op actor given old new
-ItemAsks start it config guest old new = DiskUncalled old new
+    ActorHasOwn start config actor old
+    × (op : Op) × (given : Reply) × Wants g actor op × (reply_given reply ≡ ByHost given) × AsksDevices op actor given old new
+ItemAsks start it config guest old new = DevicesUncalled old new
 
--- the disks were asked in this run, one item after another
-abbrev pub DisksAnswered : Health → (acts : List Act) (m : Machine) (outs : List Out) (n : Machine) → Run acts m outs n → DiskKnown
-    → DiskKnown → Type 0
-DisksAnswered start [] m outs n run old new = DiskRests old new
-DisksAnswered start (act ∷ acts) m outs n run old new =
-    (mid : DiskKnown) × ItemAsks start act.item m.config (running m) old mid × DisksAnswered start acts run.1 run.2 n run.5 mid new
+-- the objects were asked in this run, one item after another
+abbrev pub DevicesAnswered : Healths → (acts : List Act) (m : Machine) (outs : List Out) (n : Machine) → Run acts m outs n → DevicesKnown
+    → DevicesKnown → Type 0
+DevicesAnswered start [] m outs n run old new = DevicesRest old new
+DevicesAnswered start (act ∷ acts) m outs n run old new =
+    (mid : DevicesKnown) × ItemAsks start act.item m.config (running m) old mid × DevicesAnswered start acts run.1 run.2 n run.5 mid new
 
--- In a run since a start, for which the disks had this health, the timer was given the clock's answers, and each device its
--- disk's.
-pub record AnsweredSince (start : Health) (acts : List Act) (m : Machine) (outs : List Out) (n : Machine) (run : Run acts m outs n)
+-- In a run since a start, for which the objects had this health, the timer was given the clock's answers, and each device those of its
+-- disk, its link or its socket.
+pub record AnsweredSince (start : Healths) (acts : List Act) (m : Machine) (outs : List Out) (n : Machine) (run : Run acts m outs n)
     (old new : HostKnown) : Type 0 where
   pub clock : HasAnswered old.clock (answers_in (items_of acts)) new.clock
-  pub disk : DisksAnswered start acts m outs n run old.disk new.disk
+  pub devices : DevicesAnswered start acts m outs n run old.devices new.devices
 
 -- that run is all since the start
 abbrev pub HostAnswered : (acts : List Act) (m : Machine) (outs : List Out) (n : Machine) → Run acts m outs n → HostKnown → HostKnown → Type 0
-HostAnswered acts m outs n run old new = AnsweredSince old.disk.health acts m outs n run old new
+HostAnswered acts m outs n run old new = AnsweredSince (healths old.devices) acts m outs n run old new

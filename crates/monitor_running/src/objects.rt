@@ -1,12 +1,13 @@
 // What turns are given, as one object.
 ghost use Rattle.std.specs.Prelude.{◌≡◌, refl};
 ghost use Rattle.std.specs.Borrow.{Lends, sem};
-ghost use Rattle.monitor_running.specs.Objects.{with_clock, with_disk, with_trace};
+ghost use Rattle.monitor_running.specs.Objects.{with_clock, with_disk, with_link, with_trace, with_vsock};
 
 use serve_host::Trace;
-use vm_host::{Clock, Disk, Host};
+use vm_host::{Clock, Disk, Host, Link, VsockHost};
 
-/// What turns of a machine are given beside the sink: the clock and the disks, which its actors ask, and the trace. Each is lent.
+/// What turns of a machine are given beside the sink: the clock, the disks, the links and the host's end of the vsock device, which its
+/// actors ask, and the trace. Each is lent.
 pub trait TurnObjects: Drop {
     ghost use Rattle.monitor_running.specs.Objects.{TurnKnown};
 
@@ -14,14 +15,22 @@ pub trait TurnObjects: Drop {
 
     type D: Disk + Send;
 
+    type L: Link + Send;
+
+    type V: VsockHost + Send;
+
     type T: Trace + Send;
 
     ghost known: { Self → TurnKnown };
 
-    // the same objects with this clock, these disks, or this trace
+    // the same objects with this one in the place of theirs
     ghost clock_as: { Self → Self.C → Self };
 
     ghost disk_as: { Self → Self.D → Self };
+
+    ghost link_as: { Self → Self.L → Self };
+
+    ghost vsock_as: { Self → Self.V → Self };
 
     ghost trace_as: { Self → Self.T → Self };
 
@@ -33,7 +42,17 @@ pub trait TurnObjects: Drop {
     /// The disks of all block devices.
     fn disk(&mut self) -> &mut Self::D
         ensures* lends { sem 𝓛 (Lends Self.row Self.D.row self.entry result (disk_as self.old)) }
-        ensures value { Self.D.known result.now ≡ (known self.old).host.disk };
+        ensures value { Self.D.known result.now ≡ (known self.old).host.devices.disk };
+
+    /// The links of all network devices.
+    fn link(&mut self) -> &mut Self::L
+        ensures* lends { sem 𝓛 (Lends Self.row Self.L.row self.entry result (link_as self.old)) }
+        ensures value { Self.L.known result.now ≡ (known self.old).host.devices.link };
+
+    /// The host's end of the vsock device.
+    fn vsock(&mut self) -> &mut Self::V
+        ensures* lends { sem 𝓛 (Lends Self.row Self.V.row self.entry result (vsock_as self.old)) }
+        ensures value { Self.V.known result.now ≡ (known self.old).host.devices.vsock };
 
     /// The trace.
     fn trace(&mut self) -> &mut Self::T
@@ -44,30 +63,48 @@ pub trait TurnObjects: Drop {
 
     ghost disk_set: { (x : Self) (d : Self.D) → known (disk_as x d) ≡ with_disk (known x) (Self.D.known d) };
 
+    ghost link_set: { (x : Self) (l : Self.L) → known (link_as x l) ≡ with_link (known x) (Self.L.known l) };
+
+    ghost vsock_set: { (x : Self) (v : Self.V) → known (vsock_as x v) ≡ with_vsock (known x) (Self.V.known v) };
+
     ghost trace_set: { (x : Self) (t : Self.T) → known (trace_as x t) ≡ with_trace (known x) (Self.T.known t) };
 }
 
 /// A host, and the trace of what its actors do.
 #[derive(Drop)]
-pub struct TracedHost<D, C, T> {
-    pub host: Host<D, (), (), C>,
+pub struct TracedHost<D, L, V, C, T> {
+    pub host: Host<D, L, V, C>,
     pub trace: T,
 }
 
-impl<D: Disk + Send, C: Clock + Send, T: Trace + Send> TurnObjects for TracedHost<D, C, T> {
+impl<
+    D: Disk + Send,
+    L: Link + Send,
+    V: VsockHost + Send,
+    C: Clock + Send,
+    T: Trace + Send,
+> TurnObjects for TracedHost<D, L, V, C, T> {
     ghost use Rattle.monitor_running.specs.Traced.{traced_known};
 
     type C = C;
 
     type D = D;
 
+    type L = L;
+
+    type V = V;
+
     type T = T;
 
-    ghost known = { traced_known T.known C.known D.known };
+    ghost known = { traced_known T.known C.known D.known L.known V.known };
 
     ghost clock_as = { λ it clock. record it { host = record it.host { clock = clock } } };
 
     ghost disk_as = { λ it disk. record it { host = record it.host { disk = disk } } };
+
+    ghost link_as = { λ it link. record it { host = record it.host { link = link } } };
+
+    ghost vsock_as = { λ it vsock. record it { host = record it.host { vsock = vsock } } };
 
     ghost trace_as = { λ it trace. record it { trace = trace } };
 
@@ -81,6 +118,16 @@ impl<D: Disk + Send, C: Clock + Send, T: Trace + Send> TurnObjects for TracedHos
         &mut host.disk
     }
 
+    fn link(&mut self) -> &mut L {
+        let host = &mut self.host;
+        &mut host.link
+    }
+
+    fn vsock(&mut self) -> &mut V {
+        let host = &mut self.host;
+        &mut host.vsock
+    }
+
     fn trace(&mut self) -> &mut T {
         &mut self.trace
     }
@@ -88,6 +135,10 @@ impl<D: Disk + Send, C: Clock + Send, T: Trace + Send> TurnObjects for TracedHos
     ghost clock_set = { λ it clock. refl };
 
     ghost disk_set = { λ it disk. refl };
+
+    ghost link_set = { λ it link. refl };
+
+    ghost vsock_set = { λ it vsock. refl };
 
     ghost trace_set = { λ it trace. refl };
 }

@@ -6,11 +6,11 @@ ghost use Rattle.vm_world.specs.Worlds.{IsSameGuest, IsWorld};
 ghost use Rattle.slice_runner.specs.Slices.{ClockWasAsked, IsSerial, IsThere};
 ghost use Rattle.slice_runner.specs.Stops.{AreStopped};
 ghost use Rattle.monitor_machine.specs.State.{IsLive};
-ghost use Rattle.monitor_running.specs.Devices.{DiskWasAsked, IsDevices};
+ghost use Rattle.monitor_running.specs.Devices.{IsDevices, WereAsked};
 ghost use Rattle.monitor_running.specs.declared.ran.Ran.TheVariants as ran;
 ghost use Rattle.monitor_running.specs.Passes.{ArePassed};
 ghost use Rattle.monitor_running.specs.Ran.{IsOff, Went};
-ghost use Rattle.monitor_running.specs.Objects.{known_with, with_clock, with_disk};
+ghost use Rattle.monitor_running.specs.Objects.{known_with, with_clock, with_devices};
 ghost use Rattle.monitor_running.specs.Paced.{AreSeveral, EndsPaced, HasActed, IsMachineTurn, IsPaced, IsWorldTurn, slice_steps};
 ghost use Rattle.monitor_running.specs.Pacing.{ask_time};
 ghost use Rattle.monitor_running.specs.Reached.{Known};
@@ -142,7 +142,7 @@ fn events_each(world: &World) -> u32
     MOST_EVENTS.min(MOST_EVENTS_OF_ALL / devices)
 }
 
-// The devices act, for which the disks are lent, and the pace is told.
+// The devices act, and the pace is told.
 fn devices_by<W: TurnObjects>(
     alloc: Global,
     world: &mut World,
@@ -153,14 +153,14 @@ fn devices_by<W: TurnObjects>(
     ensures gone { IfOk result (λ events. IsSerial world.old events.items world.new) }
     ensures made { IfOk result (λ events. (g : Guest) → IsWorld world.old g → All IsDevices events.items) }
     ensures asked { IfOk result (λ events. (g : Guest) → IsWorld world.old g →
-        DiskWasAsked (W.known with.old).host.disk events.items (W.known with.new).host.disk) }
+        WereAsked (W.known with.old).host.devices events.items (W.known with.new).host.devices) }
     ensures world { OnErr result (world.new ≡ world.old) }
-    ensures disk { OnErr result ((W.known with.new).host.disk ≡ (W.known with.old).host.disk) }
-    ensures beside { W.known with.new ≡ with_disk (W.known with.old) (W.known with.new).host.disk }
+    ensures unasked { OnErr result ((W.known with.new).host.devices ≡ (W.known with.old).host.devices) }
+    ensures beside { W.known with.new ≡ with_devices (W.known with.old) (W.known with.new).host.devices }
     ensures told { IfOk result (λ events. pace.new ≡ record pace.old { is_timed = ask_time events.items }) }
     ensures untold { OnErr result (pace.new ≡ pace.old) }
 {
-    match run_devices(alloc, world, with.disk(), most) {
+    match run_devices(alloc, world, with, most) {
         Ok(events) => {
             pace.told_devices(events.as_slice());
             Ok(events)

@@ -51,7 +51,7 @@ module _ (monitor now_monitor : Monitor) (machine : LiveMachine) (k now : Known)
     stands = record {
       is = subst (λ (m : Monitor). IsMonitor m files it.flat) (sym lent)
           (monitor_kept monitor machine (hosts k files) old.flat it.flat old.stands.is it.is it.beside);
-      disks = it.files;
+      own = it.own;
       reached = it.reached;
     };
     came = old.came;
@@ -95,21 +95,21 @@ module _ (monitor now_monitor : Monitor) (machine : LiveMachine) (k now : Known)
 
   pub ran_alone : (it : Option Ran) → RanOn IsLive it (seen k) monitor.machine (seen now) machine → (it ≡ Some ran.Closed → ⊥)
       → Goes (alone_end it) old_place new_place
-  ran_alone None on never = λ s first old. kept s first old (on s old.flat old.talk old.stands.is.own.live old.stands.disks old.stands.reached)
+  ran_alone None on never = λ s first old. kept s first old (on s old.flat old.talk old.stands.is.own.live old.stands.own old.stands.reached)
   ran_alone (Some ran.Closed) on never = absurd (never refl)
   ran_alone (Some ran.Off) on never = λ s first old.
-      let it = on s old.flat old.talk old.stands.is.own.live old.stands.disks old.stands.reached in gone s first (kept s first old it.0) it.1
+      let it = on s old.flat old.talk old.stands.is.own.live old.stands.own old.stands.reached in gone s first (kept s first old it.0) it.1
   ran_alone (Some ran.TraceFailed) on never = λ s first old.
-      let it = on s old.flat old.talk old.stands.is.own.live old.stands.disks old.stands.reached in
+      let it = on s old.flat old.talk old.stands.is.own.live old.stands.own old.stands.reached in
       all_shown (served.Fault object.Trace) s first old it.told it.host refl (it.flat, it.ahead)
       (filed_ahead old.flat it.told it.flat (filed_beside old.flat it.flat it.beside)
       (run_filed (event_acts it.ahead.events) it.told it.ahead.outs it.flat it.ahead.run it.ahead.unsaid))
       it.reached
   ran_alone (Some ran.SinkFailed) on never = λ s first old.
-      let it = on s old.flat old.talk old.stands.is.own.live old.stands.disks old.stands.reached in
+      let it = on s old.flat old.talk old.stands.is.own.live old.stands.own old.stands.reached in
       broke (served.Fault object.Sink) s first old it.1.flat now.host it.0 tt refl (filed_beside old.flat it.1.flat it.1.beside) it.1.reached
   ran_alone (Some ran.OutOfMemory) on never = λ s first old.
-      let it = on s old.flat old.talk old.stands.is.own.live old.stands.disks old.stands.reached in
+      let it = on s old.flat old.talk old.stands.is.own.live old.stands.own old.stands.reached in
       all_shown served.OutOfMemory s first old it.flat now.host refl refl (filed_beside old.flat it.flat it.beside) it.reached
 
 pub alone_cause : (it : Option Ran) (old new : Hosts) (listener : Health) → HasFault it old.slices new.slices

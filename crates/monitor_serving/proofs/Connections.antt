@@ -18,8 +18,7 @@ use Rattle.monitor_core.specs.declared.monitor.Monitor.{Monitor}
 use Rattle.monitor_core.specs.State.{IsMonitor}
 use Rattle.monitor_running.specs.Asked.{HostKnown}
 use Rattle.monitor_running.specs.Reached.{Start, known, seen, told_at}
-use Rattle.monitor_machine.proofs.Attaching.{uncalled_none}
-use Rattle.monitor_running.proofs.Joins.{goes_with, one_given}
+use Rattle.monitor_running.proofs.Joins.{goes_with, one_given, uncalled_none}
 use Rattle.monitor_serving.specs.declared.served.Served.{Served as End}
 use Rattle.monitor_serving.specs.declared.served.Served.TheVariants as served
 use Rattle.monitor_serving.specs.Causes.{IsOver, ServedCause}
@@ -74,14 +73,14 @@ module _ (s : Start) (first : ListenerKnown) (monitor opened : Monitor) (trace t
       (old.talk ++ Opened ∷ [])
   stands_opened = record {
     is = opens old.flat old.stands.is;
-    disks = old.stands.disks;
+    own = old.stands.own;
     reached =
         let act : Act = record { item = item.Connect; outcomes = [] } in
         let next : Machine = record old.flat { connection = new_connection } in
         let run : Run (act ∷ []) old.flat (Opened ∷ []) next = (Opened, next, [], refl, (refl, (refl, (refl, refl))), (refl, refl)) in
         goes_with s (seen (known trace sink host)) (seen (known told sink host)) old.flat next old.talk (act ∷ []) (Opened ∷ [])
         old.stands.reached run is_told (sym (append-nil sink.taken))
-        (unasked (told_at s) act old.flat (Opened ∷ []) next run host host refl refl (uncalled_none host.disk)) (one_given act refl);
+        (unasked (told_at s) act old.flat (Opened ∷ []) next run host host refl refl (uncalled_none host.devices)) (one_given act refl);
   }
 
   module _ (fresh conn : ConnKnown) (is_fresh : IsFresh fresh bytes) (monitor_now : Monitor) (now : Hosts) (left : ListenerKnown)

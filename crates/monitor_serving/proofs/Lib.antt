@@ -1,3 +1,4 @@
+pub mod AllNamed
 pub mod Alone
 pub mod Answering
 pub mod Bringing

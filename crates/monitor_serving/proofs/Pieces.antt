@@ -1,8 +1,7 @@
 -- What comes of bytes that a connection gave.
 use Rattle.std.proofs.Common.{◌≡◌, ℕ, Bool, true, false, inl, refl, sym, ap, ◌∙◌, subst, List, [], ◌∷◌, ◌++◌, append-nil}
 use Rattle.vm_types.specs.declared.exit.Object.TheVariants as object
-use Rattle.vm_outside.specs.Known.{FilesKnown, Health, SinkKnown, Tells}
-use Rattle.vm_host.specs.Storing.{DiskKnown}
+use Rattle.vm_outside.specs.Known.{FilesKnown, SinkKnown, Tells}
 use Rattle.vm_host.specs.Telling.{ClockKnown}
 use Rattle.serve_host.specs.Passing.{ConnKnown, Gives, Waits}
 use Rattle.serve_host.specs.Tracing.{TraceKnown}
@@ -20,13 +19,12 @@ use Rattle.monitor_core.specs.declared.monitor.Monitor.{Monitor}
 use Rattle.monitor_core.specs.State.{IsMonitor}
 use Rattle.monitor_core.specs.Talking.{HasHalted}
 use Rattle.slice_runner.specs.Runs.{HasAnswered}
-use Rattle.monitor_machine.specs.Disks.{DiskUncalled, HasFiles}
-use Rattle.monitor_machine.proofs.Attaching.{uncalled_none}
-use Rattle.monitor_running.specs.Asked.{AnsweredSince, HostKnown, ItemAsks}
-use Rattle.monitor_running.specs.Reached.{AreFiles, Reached, Seen, Start, known, seen, told_at}
-use Rattle.monitor_running.proofs.Attached.{files_since}
-use Rattle.monitor_running.proofs.Disks.{rests_same}
-use Rattle.monitor_running.proofs.Joins.{goes_with, none_ahead, one_given, reached_still}
+use Rattle.monitor_machine.specs.Kinds.{DevicesKnown}
+use Rattle.monitor_running.specs.Asked.{AnsweredSince, DevicesUncalled, HaveOwn, Healths, HostKnown, ItemAsks, healths}
+use Rattle.monitor_running.specs.Reached.{AreOwn, Reached, Seen, Start, known, seen, told_at}
+use Rattle.monitor_running.proofs.Attached.{own_since}
+use Rattle.monitor_running.proofs.Events.{rests_same}
+use Rattle.monitor_running.proofs.Joins.{goes_with, none_ahead, one_given, reached_still, uncalled_none}
 use Rattle.monitor_serving.specs.declared.served.Served.TheVariants as served
 use Rattle.monitor_serving.specs.Turns.{Broke, Continues}
 use Rattle.monitor_serving.specs.Views.{Talked, View, host_with, hosts, view}
@@ -34,18 +32,18 @@ use Rattle.monitor_serving.proofs.Bringing.{gives_bring, waits_bring}
 use Rattle.monitor_serving.proofs.Closing.{heard_closes}
 use Rattle.monitor_serving.proofs.Halting.{halted_talk}
 
--- a clock that is asked nothing by an item, and disks that are not called in it
-pub unasked : (start : Health) (act : Act) (m : Machine) (outs : List Out) (n : Machine) (run : Run (act ∷ []) m outs n)
+-- a clock that is asked nothing by an item, and objects of devices that are not called in it
+pub unasked : (start : Healths) (act : Act) (m : Machine) (outs : List Out) (n : Machine) (run : Run (act ∷ []) m outs n)
     (old new : HostKnown) → new.clock ≡ old.clock → answers_in (act.item ∷ []) ≡ []
-    → ItemAsks start act.item m.config (running m) old.disk new.disk → AnsweredSince start (act ∷ []) m outs n run old new
+    → ItemAsks start act.item m.config (running m) old.devices new.devices → AnsweredSince start (act ∷ []) m outs n run old new
 unasked start act m outs n run old new same none asks = record {
   clock = subst (λ (c : ClockKnown). HasAnswered old.clock (answers_in (act.item ∷ [])) c) (sym same)
       (subst (λ (l : List ℕ). HasAnswered old.clock l old.clock) (sym none) (record { still = λ tells. tells; are = λ tells. refl }));
-  disk = (new.disk, asks, rests_same new.disk);
+  devices = (new.devices, asks, rests_same new.devices);
 }
 
 module _ (s : Start) (m : Machine) (talk : List Out) (bytes : List ℕ) (trace told : TraceKnown) (sink : SinkKnown) (clock : ClockKnown)
-    (old new : DiskKnown) (uncalled : DiskUncalled old new) (is_told : told.took ≡ trace.took ++ item.Bytes bytes ∷ [])
+    (old new : DevicesKnown) (uncalled : DevicesUncalled old new) (is_told : told.took ≡ trace.took ++ item.Bytes bytes ∷ [])
     (reached : Reached s (seen (known trace sink (host_with clock old))) m talk) where
   abbrev after_bytes : Seen
   after_bytes = seen (known told sink (host_with clock new))
@@ -91,7 +89,7 @@ said_on before now bytes text unsent responses gave took is brought = record {
 }
 
 module _ (s : Start) (m : Machine) (talk : List Out) (bytes : List ℕ) (trace told : TraceKnown) (sink : SinkKnown) (clock : ClockKnown)
-    (old : DiskKnown) (files left : FilesKnown) (monitor after : Monitor) (before conn now : ConnKnown)
+    (old : DevicesKnown) (files left : FilesKnown) (monitor after : Monitor) (before conn now : ConnKnown)
     (is_told : told.took ≡ trace.took ++ item.Bytes bytes ∷ [])
     (reached : Reached s (seen (known trace sink (host_with clock old))) m talk)
     (came : Gives before conn bytes) (untaken : conn.took ≡ before.took) (waits : Waits conn now)
@@ -99,8 +97,8 @@ module _ (s : Start) (m : Machine) (talk : List Out) (bytes : List ℕ) (trace t
   abbrev pub from : View
   from = view monitor (hosts (known trace sink (host_with clock old)) files) before
 
-  abbrev pub to : DiskKnown → View
-  to disk = view after (hosts (known told sink (host_with clock disk)) left) now
+  abbrev pub to : DevicesKnown → View
+  to devices = view after (hosts (known told sink (host_with clock devices)) left) now
 
   pub gave : now.gave ≡ before.gave ++ bytes
   gave = waits.gave ∙ came.gave
@@ -108,28 +106,28 @@ module _ (s : Start) (m : Machine) (talk : List Out) (bytes : List ℕ) (trace t
   pub brought : now.gave ++ now.left ≡ before.gave ++ before.left
   brought = waits_bring conn now waits ∙ gives_bring before conn bytes came
 
-  -- the replies were taken, but for these bytes, once the disks were the files of drives
-  abbrev pub was_answered : (disk : DiskKnown) → DiskUncalled old disk → (outcomes : List Outcome) (responses : List Response) (n : Machine)
+  -- the replies were taken, but for these bytes, once the objects of devices were those that are configured
+  abbrev pub was_answered : (devices : DevicesKnown) → DevicesUncalled old devices → (outcomes : List Outcome) (responses : List Response) (n : Machine)
       (text unsent : List ℕ) → is_off m ≡ false → Talks bytes outcomes m responses n → IsMonitor after left n
-      → HasFiles old.health n disk → text ≡ all_written Http responses → now.took ++ unsent ≡ conn.took ++ text
-      → Continues s from (to disk) talk unsent
-  was_answered disk uncalled outcomes responses n text unsent on talks is attached written took = record {
+      → HaveOwn (healths old) n devices → text ≡ all_written Http responses → now.took ++ unsent ≡ conn.took ++ text
+      → Continues s from (to devices) talk unsent
+  was_answered devices uncalled outcomes responses n text unsent on talks is attached written took = record {
     flat = n;
     heard = Heard bytes responses ∷ [];
     talked = said_on before now bytes text unsent responses gave (took ∙ ap (λ (l : List ℕ). l ++ text) untaken) written brought;
     closed = heard_closes monitor after files left m n bytes outcomes responses was is talks;
     stands = record {
       is = is;
-      disks = files_since (told_at s) old.health n.guest n.config disk
+      own = own_since (told_at s) old n devices
           (reached_still s (seen (known trace sink (host_with clock old))) m talk reached) attached;
-      reached = was_heard s m talk bytes trace told sink clock old disk uncalled is_told reached outcomes responses n on talks;
+      reached = was_heard s m talk bytes trace told sink clock old devices uncalled is_told reached outcomes responses n on talks;
     };
   }
 
   -- the guest is off, and nothing is answered
-  abbrev pub was_ignored : is_off m ≡ true → AreFiles s m (seen (known trace sink (host_with clock old))) → IsMonitor after left m
+  abbrev pub was_ignored : is_off m ≡ true → AreOwn s m (seen (known trace sink (host_with clock old))) → IsMonitor after left m
       → after ≡ monitor → now.took ≡ conn.took → Continues s from (to old) talk []
-  was_ignored off disks is same took = record {
+  was_ignored off own is same took = record {
     flat = m;
     heard = Heard bytes [] ∷ [];
     talked = said_on before now bytes [] [] [] gave
@@ -137,7 +135,7 @@ module _ (s : Start) (m : Machine) (talk : List Out) (bytes : List ℕ) (trace t
     closed = λ failed. inl (subst (λ (x : Monitor). x.front.failed ≡ true) same failed);
     stands = record {
       is = is;
-      disks = disks;
+      own = own;
       reached = was_dropped s m talk bytes trace told sink clock old old (uncalled_none old) is_told reached off;
     };
   }

@@ -55,7 +55,7 @@ module _ (monitor : Monitor) (machine : LiveMachine) (old new : Hosts) (conn : C
   kept_stands s m talk is k = record {
     is = subst (λ f. IsMonitor (record monitor { machine = machine }) f k.flat) (sym files_same)
         (monitor_kept monitor machine old m k.flat is k.is k.beside);
-    disks = k.files;
+    own = k.own;
     reached = subst (λ (t : List Out). Reached s (seen new.slices) k.flat t) (sym (append-nil talk)) k.reached;
   }
 
@@ -73,10 +73,10 @@ module _ (monitor : Monitor) (machine : LiveMachine) (old new : Hosts) (conn : C
   pub slices_on : (ran : Ran) → RanOn IsLive (Some ran) (seen old.slices) monitor.machine (seen new.slices) machine → end_of ran ≡ None
       → GoesOn (view monitor old conn) after
   slices_on ran.Closed on none = λ s m talk stands.
-      let k = on s m talk stands.is.own.live stands.disks stands.reached in
+      let k = on s m talk stands.is.own.live stands.own stands.reached in
       went_on s m talk stands.is k.0
   slices_on ran.Off on none = λ s m talk stands.
-      let k = on s m talk stands.is.own.live stands.disks stands.reached in
+      let k = on s m talk stands.is.own.live stands.own stands.reached in
       went_on s m talk stands.is k.0
   slices_on ran.TraceFailed on none = absurd (no_end (served.Fault object.Trace) none)
   slices_on ran.SinkFailed on none = absurd (no_end (served.Fault object.Sink) none)
@@ -157,15 +157,15 @@ module _ (monitor now : Monitor) (machine : LiveMachine) (old new : Hosts) (conn
   slices_broke ran.TraceFailed end on is =
       subst (λ (o : Option Served). served_as o) is
       (λ s m talk stands.
-      let a = on s m talk stands.is.own.live stands.disks stands.reached in
+      let a = on s m talk stands.is.own.live stands.own stands.reached in
       all_shown (served.Fault object.Trace) s talk a.told a.host refl (a.flat, a.ahead) (ahead s m talk stands.is.files a) a.reached)
   slices_broke ran.SinkFailed end on is =
       subst (λ (o : Option Served). served_as o) is
       (λ s m talk stands.
-      let a = on s m talk stands.is.own.live stands.disks stands.reached in
+      let a = on s m talk stands.is.own.live stands.own stands.reached in
       broke_at (served.Fault object.Sink) s talk a.1.flat new.slices.host a.0 tt refl (beside m a.1.flat stands.is.files a.1.beside) a.1.reached)
   slices_broke ran.OutOfMemory end on is =
       subst (λ (o : Option Served). served_as o) is
       (λ s m talk stands.
-      let k = on s m talk stands.is.own.live stands.disks stands.reached in
+      let k = on s m talk stands.is.own.live stands.own stands.reached in
       all_shown served.OutOfMemory s talk k.flat new.slices.host refl refl (beside m k.flat stands.is.files k.beside) k.reached)

@@ -3,8 +3,7 @@
 use Rattle.std.specs.Prelude.{ℕ, ◌≡◌, ◌⊎◌, true, false, List, [], ◌++◌, Option, Some, None}
 use Rattle.vm_types.specs.Causes.{Rose}
 use Rattle.vm_types.specs.declared.exit.Object.TheVariants as object
-use Rattle.vm_outside.specs.Known.{Health}
-use Rattle.monitor_running.specs.Asked.{HostKnown}
+use Rattle.monitor_running.specs.Asked.{Healths, HostKnown}
 use Rattle.flat_machine.specs.Machine.{AreFilesOf, Machine, is_off}
 use Rattle.flat_trace.specs.Showing.{Out}
 use Rattle.monitor_running.specs.Reached.{LeadsAhead, Reached, Start, told_at}
@@ -26,14 +25,14 @@ abbrev pub MayLack : Served → List ℕ → Type 0
 MayLack (served.Fault object.Sink) unshown = Unit {0}
 MayLack end unshown = unshown ≡ []
 
--- What the clock and the disks were asked since the trace's end. By a trace that failed: in events that it lacks. Else
+-- What the clock and the objects of devices were asked since the trace's end. By a trace that failed: in events that it lacks. Else
 -- nothing.
-abbrev pub AskedBehind : Served → Health → Machine → HostKnown → HostKnown → Type 0
+abbrev pub AskedBehind : Served → Healths → Machine → HostKnown → HostKnown → Type 0
 AskedBehind (served.Fault object.Trace) start at told now = (flat : Machine) × LeadsAhead start at told flat now
 AskedBehind end start at told now = now ≡ told
 
 -- Serving broke off. What the trace took leads to some machine, whose files are there, and the answers in it to this of the clock and
--- the disks. Of what that shows the sink and the connection took a front, and of the bytes that came the trace has a front.
+-- the objects of devices. Of what that shows the sink and the connection took a front, and of the bytes that came the trace has a front.
 pub record Broke (end : Served) (s : Start) (old new : View) (talk : List Out) : Type 0 where
   pub at : Machine
   pub host : HostKnown

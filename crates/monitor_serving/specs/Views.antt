@@ -1,7 +1,6 @@
 -- Where everything is while connections are served.
 use Rattle.std.specs.Prelude.{ℕ, ◌≡◌, Bool, true, false, List, [], ◌∷◌, ◌++◌}
 use Rattle.std.specs.List.{list_any}
-use Rattle.vm_host.specs.Storing.{DiskKnown}
 use Rattle.vm_host.specs.Telling.{ClockKnown}
 use Rattle.vm_outside.specs.Known.{FilesKnown, Lasts, SinkKnown, Tells}
 use Rattle.serve_host.specs.Passing.{ConnKnown}
@@ -11,9 +10,10 @@ use Rattle.flat_trace.specs.Showing.{Out, given, replied}
 use Rattle.flat_trace.specs.Showing.Out.{Heard}
 use Rattle.monitor_core.specs.declared.monitor.Monitor.{Monitor}
 use Rattle.monitor_core.specs.State.{IsMonitor}
+use Rattle.monitor_machine.specs.Kinds.{DevicesKnown}
 use Rattle.monitor_running.specs.Asked.{HostKnown}
 use Rattle.monitor_running.specs.Objects.{TurnKnown, known_with}
-use Rattle.monitor_running.specs.Reached.{AreFiles, Known, Reached, Seen, Start, seen}
+use Rattle.monitor_running.specs.Reached.{AreOwn, Known, Reached, Seen, Start, seen}
 
 -- what is known of the host objects: those of slices, and the files
 pub record Hosts : Type 0 where
@@ -27,9 +27,9 @@ hosts slices files = record { slices = slices; files = files }
 abbrev pub hosts_of : {W K F : Type 0} → (W → TurnKnown) → (K → SinkKnown) → (F → FilesKnown) → W → K → F → Hosts
 hosts_of of_turns of_sink of_files with sink files = hosts (known_with (of_turns with) (of_sink sink)) (of_files files)
 
--- of a clock and of disks
-abbrev pub host_with : ClockKnown → DiskKnown → HostKnown
-host_with clock disk = record { clock = clock; disk = disk }
+-- of a clock and of objects of devices
+abbrev pub host_with : ClockKnown → DevicesKnown → HostKnown
+host_with clock devices = record { clock = clock; devices = devices }
 
 -- the trace, the sink and the files tell their content
 pub record AllTell (hosts : Hosts) : Type 0 where
@@ -58,14 +58,14 @@ abbrev pub view_of : {W K F N : Type 0} → (W → TurnKnown) → (K → SinkKno
 view_of of_turns of_sink of_files of_conn monitor with sink files conn =
     view monitor (hosts_of of_turns of_sink of_files with sink files) (of_conn conn)
 
--- the monitor is the machine after all that happened since the start, which the trace has, and its disks are the files of its
--- drives
+-- the monitor is the machine after all that happened since the start, which the trace has, and its devices' objects are those that are
+-- configured
 pub record Stands (s : Start) (monitor : Monitor) (hosts : Hosts) (m : Machine) (talk : List Out) : Type 0 where
   pub is : IsMonitor monitor hosts.files m
-  pub disks : AreFiles s m (seen hosts.slices)
+  pub own : AreOwn s m (seen hosts.slices)
   pub reached : Reached s (seen hosts.slices) m talk
 
--- what was seen, were these bytes taken too, with what is known of a clock and disks
+-- what was seen, were these bytes taken too, with what is known of a clock and objects of devices
 abbrev pub seen_with : Known → List ℕ → HostKnown → Seen
 seen_with slices unshown host = record (seen slices) { taken = slices.sink.taken ++ unshown; host = host }
 

@@ -6,6 +6,7 @@
 //! takes connections from a listener, with slices between them.
 #![tactic(auto)]
 
+mod attaching;
 mod beside;
 mod connection;
 mod gating;

@@ -5,16 +5,16 @@ ghost use Rattle.serve_host.specs.Passing.{ConnKnown, Waits};
 ghost use Rattle.serve_host.specs.Tracing.{TraceKnown, TraceStays};
 ghost use Rattle.vm_outside.specs.Known.{Called, FilesKnown, Lasts, SinkKnown, Tells};
 ghost use Rattle.flat_machine.specs.Machine.{Machine};
-ghost use Rattle.monitor_machine.specs.Disks.{DiskUncalled, HasFiles};
 ghost use Rattle.monitor_core.specs.State.{IsMonitor};
 ghost use Rattle.monitor_serving.specs.Causes.{AnswerCause, ReplyCause, TurnedCause};
 ghost use Rattle.monitor_serving.specs.Gating.{IsGated, StaysGated};
 ghost use Rattle.monitor_serving.specs.Hearing.{Gave, HeardCause, HearsBy, IsWithin, bytes_in};
 ghost use Rattle.monitor_serving.specs.Turns.{TurnedAs};
-ghost use Rattle.monitor_running.specs.Objects.{known_with, with_disk, with_trace};
+ghost use Rattle.monitor_running.specs.Objects.{known_with, with_trace};
 ghost use Rattle.monitor_running.specs.Reached.{known};
 ghost use Rattle.monitor_serving.specs.Views.{AllLast, AllTell, Hosts, hosts, hosts_of, view, view_of};
 
+use crate::attaching::attach;
 use crate::beside::run_beside;
 use crate::gating::Gating;
 use crate::items::tell_item;
@@ -61,18 +61,8 @@ fn bytes_in(item: &Item) -> &[u8]
     }
 }
 
-// The disks are attached as the machine's drives name them.
-fn attach<W: TurnObjects>(monitor: &Monitor, with: &mut W)
-    ensures attached { (files : FilesKnown) (m : Machine) → IsMonitor monitor.now files m →
-        HasFiles (W.known with.old).host.disk.health m (W.known with.new).host.disk }
-    ensures uncalled { DiskUncalled (W.known with.old).host.disk (W.known with.new).host.disk }
-    ensures beside { W.known with.new ≡ with_disk (W.known with.old) (W.known with.new).host.disk }
-{
-    monitor.attach_disks(with.disk());
-}
-
 // Bytes that are in the trace: what is due is answered. It may have changed which files the disks are, and they are attached before
-// the answer is sent, so that who has it may move them. Once the guest is off nothing is answered.
+// the answer is sent, so that who has it may move them; so are links and sockets. Once the guest is off nothing is answered.
 fn reply<N: Conn, F: Files, W: TurnObjects>(
     monitor: &mut Monitor,
     files: &mut F,

@@ -17,6 +17,7 @@ mod filing;
 mod folders;
 mod gates;
 mod lines;
+mod links;
 mod lists;
 mod locking;
 mod merges;
@@ -29,6 +30,7 @@ mod spoilt;
 mod steps;
 mod stored;
 mod streams;
+mod vsocks;
 
 use crate::showing::Shown;
 use std::alloc::{AllocError, Global};
@@ -50,6 +52,8 @@ fn show_all(rt: &HostRuntime, shown: &mut Shown) -> io::Result<()> {
     addresses::show(rt, shown)?;
     silences::show(rt, shown)?;
     accepts::show(rt, shown)?;
+    links::show(rt, shown)?;
+    vsocks::show(rt, shown)?;
     lines::show(rt.alloc(), shown)?;
     stored::show(rt, shown)?;
     locking::show(rt, shown)?;

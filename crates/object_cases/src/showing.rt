@@ -2,6 +2,8 @@
 use serve_host::Accepted;
 use std::alloc::{AllocError, Global};
 use std::fmt::Debug;
+use std::io;
+use std::time::{Duration, Instant};
 use vm_outside::Failed;
 
 /// All that is shown. Where there is no memory for more, it is cut off.
@@ -99,4 +101,9 @@ pub fn found<C: Drop>(accepted: &Result<Accepted<C>, Failed>) -> &'static str {
         Ok(Accepted::Ended) => "ended",
         Err(Failed) => "failed",
     }
+}
+
+/// Whether fewer milliseconds than so many have passed since then.
+pub fn waited_for(rt: &HostRuntime, start: Instant, most: u64) -> io::Result<bool> {
+    Ok(start.elapsed(rt)? < Duration::from_millis(most))
 }

@@ -6,10 +6,12 @@ use firecracker_cli::{ServeOutside, firecracker_main};
 use monitor_cli::{Outside, replay_main};
 use monitor_running::TracedHost;
 use outside_mem::{
-    Failing, MemoryDisk, MemoryFiles, MemorySink, MemorySource, MemoryTrace, Numbers, SteadyWords,
+    Failing, MemoryDisk, MemoryFiles, MemoryLink, MemorySink, MemorySource, MemoryTrace,
+    MemoryVsock, Numbers, SteadyWords,
 };
 use script_text::{Item, write_item};
 use std::alloc::{AllocError, Global};
+use std::collections::VecDeque;
 use std::io;
 use std::sync::Wait;
 use std::thread::Threads;
@@ -18,7 +20,15 @@ use vm_outside::{Failed, Files};
 use vm_types::ByteList;
 
 /// The objects of `serve`, and those of every command.
-pub type With = ServeOutside<MemoryDisk, Ticks, SteadyWords, Door, MemoryTrace>;
+pub type With = ServeOutside<
+    MemoryDisk,
+    MemoryLink,
+    MemoryVsock,
+    Ticks,
+    SteadyWords,
+    Door,
+    MemoryTrace,
+>;
 
 pub type Out = Outside<MemorySource, MemorySink, MemoryFiles>;
 
@@ -74,13 +84,25 @@ fn disk_of(alloc: Global, session: &Session, disk: &[u8]) -> Result<MemoryDisk, 
     Ok(MemoryDisk::new(alloc, disks, fails(alloc, session.disk_fails)?))
 }
 
+/// Links on which no frame comes and none can be sent.
+pub fn no_link(alloc: Global) -> MemoryLink {
+    MemoryLink::new(alloc, Vec::new(alloc), Failing::new(Vec::new(alloc)))
+}
+
+/// A host's end where nothing happens, and nobody who is dialled answers.
+pub fn no_vsock(alloc: Global) -> MemoryVsock {
+    let coming = VecDeque::new(alloc);
+    let answers = VecDeque::new(alloc);
+    MemoryVsock::new(alloc, coming, answers, Failing::new(Vec::new(alloc)))
+}
+
 /// The objects that a session is handed. The lineage is 77, and moments are 25 ns apart, so that the first slice ends before
 /// 299,008 ns.
 pub fn with_of(alloc: Global, session: &Session, disk: &[u8]) -> Result<With, AllocError> {
     let host = Host {
         disk: disk_of(alloc, session, disk)?,
-        link: (),
-        vsock: (),
+        link: no_link(alloc),
+        vsock: no_vsock(alloc),
         clock: Ticks::new(25),
     };
     let words = SteadyWords::new(Numbers::new([77].to_vec(alloc)?));

@@ -6,11 +6,12 @@ use crate::images::{
     ADDS_AND_ENDS, ADDS_TO_ONE_WORD, ENDS, GO_THEIR_WAYS, WAITS_AND_ENDS, WRITES_AND_ENDS,
 };
 use crate::playing::{NOBODY, Player, are_alike, machine_of, play_all, word_at};
+use crate::sessions::{no_link, no_vsock};
 use crate::showing::text_of;
 use crate::ticking::Ticks;
 use monitor_machine::LiveMachine;
 use monitor_running::{Ran, TracedHost, run_while};
-use outside_mem::{Failing, MemoryDisk, MemorySink};
+use outside_mem::{Failing, MemoryDisk, MemoryLink, MemorySink, MemoryVsock};
 use pause_gate::{FlagGate, Gate, HoldGate, Party, Pass};
 use std::alloc::{AllocError, Global};
 use std::io;
@@ -161,7 +162,7 @@ fn party(hart: u8, page: u32) -> Party {
 struct Running<'a> {
     machine: LiveMachine,
     other: LiveMachine,
-    turns: TracedHost<MemoryDisk, Ticks, Player<'a>>,
+    turns: TracedHost<MemoryDisk, MemoryLink, MemoryVsock, Ticks, Player<'a>>,
     sink: MemorySink,
 }
 
@@ -186,12 +187,12 @@ fn player_of<'a>(alloc: Global, row: &Row, gate: &'a HoldGate) -> Result<Player<
     Ok(Player::new(alloc, row.left, gate, fails, row.consoles_alone))
 }
 
-// Without a disk.
-fn host_of(alloc: Global) -> Host<MemoryDisk, (), (), Ticks> {
+// Without a disk, a link or a socket.
+fn host_of(alloc: Global) -> Host<MemoryDisk, MemoryLink, MemoryVsock, Ticks> {
     Host {
         disk: MemoryDisk::new(alloc, Vec::new(alloc), Failing::new(Vec::new(alloc))),
-        link: (),
-        vsock: (),
+        link: no_link(alloc),
+        vsock: no_vsock(alloc),
         clock: Ticks::new(100),
     }
 }

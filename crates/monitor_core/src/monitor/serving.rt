@@ -4,13 +4,14 @@ ghost use Rattle.std.specs.Borrow.{sem};
 ghost use Rattle.vm_outside.specs.Known.{FilesKnown, Lasts};
 ghost use Rattle.http_stream.specs.Conversation.{new_connection};
 ghost use Rattle.flat_machine.specs.Machine.{Machine};
-ghost use Rattle.monitor_machine.specs.Disks.{DiskUncalled, HasFiles};
+ghost use Rattle.monitor_machine.specs.Kinds.{disks, links, vsocks};
+ghost use Rattle.monitor_machine.specs.Objects.{AreNamed, Uncalled};
 
 use crate::monitor::Monitor;
 use monitor_machine::LiveMachine;
 use responses::ResponseForm;
 use std::alloc::AllocError;
-use vm_host::Disk;
+use vm_host::{Disk, Link, VsockHost};
 use vm_outside::Files;
 use vm_types::ByteList;
 
@@ -74,9 +75,27 @@ impl Monitor {
     /// opened fails later.
     pub fn attach_disks<D: Disk>(&self, disk: &mut D)
         ensures attached { (known : FilesKnown) (m : Machine) → IsMonitor self.now known m →
-            HasFiles (D.known disk.old).health m (D.known disk.new) }
-        ensures uncalled { DiskUncalled (D.known disk.old) (D.known disk.new) }
+            AreNamed disks (D.known disk.old).health m (D.known disk.new) }
+        ensures uncalled { Uncalled disks (D.known disk.old) (D.known disk.new) }
     {
         self.machine.attach_disks(disk);
+    }
+
+    /// The same of the links of its interfaces.
+    pub fn attach_links<L: Link>(&self, link: &mut L)
+        ensures attached { (known : FilesKnown) (m : Machine) → IsMonitor self.now known m →
+            AreNamed links (L.known link.old).health m (L.known link.new) }
+        ensures uncalled { Uncalled links (L.known link.old) (L.known link.new) }
+    {
+        self.machine.attach_links(link);
+    }
+
+    /// The same of the host's end of its vsock device.
+    pub fn attach_vsock<V: VsockHost>(&self, vsock: &mut V)
+        ensures attached { (known : FilesKnown) (m : Machine) → IsMonitor self.now known m →
+            AreNamed vsocks (V.known vsock.old).health m (V.known vsock.new) }
+        ensures uncalled { Uncalled vsocks (V.known vsock.old) (V.known vsock.new) }
+    {
+        self.machine.attach_vsock(vsock);
     }
 }

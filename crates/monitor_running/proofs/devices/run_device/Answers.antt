@@ -1,17 +1,20 @@
 use Rattle.std.proofs.Common.{arith}
-use Rattle.vm_outside.proofs.Passing.{lasts_more}
+use Rattle.monitor_running.proofs.Lent.{beside_more}
 use Rattle.monitor_running.proofs.devices.run_device.Goals as goal
 
 pub returns-then-not-step_device-clause-acted : goal.returns-then-not-step_device-clause-acted
 returns-then-not-step_device-clause-acted g c = λ first asked less acted.
     c.step_device.ensures.acted first asked less (c.loop-made.invariant.acted first asked less acted)
 
+pub returns-then-not-step_device-clause-beside : goal.returns-then-not-step_device-clause-beside
+returns-then-not-step_device-clause-beside g c = beside_more _ _ _ c.loop-made.invariant.beside c.step_device.ensures.beside
+
 pub loop-made-preserved : goal.loop-made-preserved
 loop-made-preserved g c =
     let before = c.loop-made.invariant in
     let after = c.step_device.ensures in record {
       acted = λ first asked less acted. after.acted first asked less (before.acted first asked less acted);
-      lasts = lasts_more _ _ _ before.lasts after.lasts;
+      beside = beside_more _ _ _ before.beside after.beside;
       room = omega (arith, after.room, before.room);
       most = omega (arith, after.most, before.most);
     }

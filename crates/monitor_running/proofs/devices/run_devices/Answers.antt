@@ -1,15 +1,15 @@
-use Rattle.std.proofs.Common.{arith}
-use Rattle.vm_outside.proofs.Passing.{lasts_more, lasts_same}
+use Rattle.std.proofs.Common.{arith, refl}
 use Rattle.monitor_running.proofs.Acting.{acted_reserved}
+use Rattle.monitor_running.proofs.Lent.{beside_more}
 use Rattle.monitor_running.proofs.devices.run_devices.Goals as goal
 
 pub loop-number-preserved : goal.loop-number-preserved
 loop-number-preserved g c =
     let before = c.loop-number.invariant in
     let after = c.run_device.ensures in record {
-      acted = after.acted c.args.world.now (g.D.Disk.known c.args.disk.now)
+      acted = after.acted c.args.world.now (g.W.TurnObjects.known c.args.with.now).host.devices
           (let less = c.loop-number-test.true in let few = c.min-devices.ensures in omega (arith, less, few)) before.acted;
-      lasts = lasts_more _ _ _ before.lasts after.lasts;
+      beside = beside_more _ _ _ before.beside after.beside;
       none = λ is. let less = c.loop-number-test.true in absurd (omega (arith, is, less));
       most = omega (arith, after.most, before.most);
       room = omega (arith, after.room, before.room);
@@ -19,9 +19,9 @@ pub loop-number-init : goal.loop-number-init
 loop-number-init g c =
     let made = c.in_ok-events.ensures in record {
       acted =
-          acted_reserved c.args.world.now c.make_room.new.world (g.D.Disk.known c.args.disk.now) c.in_ok-events.events.items made.items
-          c.make_room.ensures.ok;
-      lasts = lasts_same _;
+          acted_reserved c.args.world.now c.make_room.new.world (g.W.TurnObjects.known c.args.with.now).host.devices
+          c.in_ok-events.events.items made.items c.make_room.ensures.ok;
+      beside = refl;
       none = λ is. made.items;
       most = omega (arith, made.len);
       room = omega (arith, made.capacity);

@@ -2,7 +2,7 @@ use Rattle.std.proofs.Common.{refl, None, Some}
 use Rattle.monitor_running.specs.declared.ran.Ran.TheVariants as ran
 use Rattle.monitor_running.specs.Ran.{IsRunning}
 use Rattle.monitor_running.proofs.Joins.{host_same}
-use Rattle.monitor_running.proofs.Lent.{by_disk}
+use Rattle.monitor_running.proofs.Lent.{by_devices}
 use Rattle.monitor_running.proofs.Told.{devices_gone, went_failed, went_told, went_untold}
 use Rattle.monitor_running.proofs.Staying.{stays_drained, stays_same, stays_serial, stays_then}
 use Rattle.monitor_running.proofs.Turns.{untold_unclosed}
@@ -13,9 +13,9 @@ pub returns-in_default-clause-part : goal.returns-in_default-clause-part
 returns-in_default-clause-part g c =
     let all = g.W.TurnObjects.known in record {
       went =
-          by_disk IsRunning (Some ran.OutOfMemory) (all c.args.with.now) (all c.devices_by.new.with) (all c.devices_by.new.with) _ _ _ _ refl
+          by_devices IsRunning (Some ran.OutOfMemory) (all c.args.with.now) (all c.devices_by.new.with) (all c.devices_by.new.with) _ _ _ _ refl
           c.devices_by.ensures.beside
-          (went_failed _ _ _ _ _ _ c.in_default.ensures.disk c.in_default.ensures.world refl);
+          (went_failed _ _ _ _ _ _ c.in_default.ensures.unasked c.in_default.ensures.world refl);
       ready = stays_same _ _ c.in_default.ensures.world;
       unclosed = λ is. cc;
     }
@@ -25,7 +25,7 @@ returns-in-Err-clause-part g c =
     let all = g.W.TurnObjects.known in
     let told = c.in-Err.ensures in record {
       went =
-          by_disk IsRunning (Some c.end_by.result) (all c.args.with.now) (all c.devices_by.new.with) (all c.tell_slice.new.with) _ _ _ _ told.beside
+          by_devices IsRunning (Some c.end_by.result) (all c.args.with.now) (all c.devices_by.new.with) (all c.tell_slice.new.with) _ _ _ _ told.beside
           c.devices_by.ensures.beside
           (went_untold c.end_by.result c.in-Err.why _ _ _ _ _ _ _ _ _ c.in-Ok.events.items _ c.end_by.ensures
           c.as_slice.ensures.value (devices_gone c.in-Ok.events.items c.args.world.now c.devices_by.new.world _ _ _ c.in-Ok.ensures.gone c.in-Ok.ensures.made c.in-Ok.ensures.asked)
@@ -39,7 +39,7 @@ returns-clause-part g c =
     let all = g.W.TurnObjects.known in
     let told = c.in_default-tell_slice.ensures in record {
       went =
-          by_disk IsRunning None (all c.args.with.now) (all c.devices_by.new.with) (all c.tell_slice.new.with) _ _ _ _ told.beside
+          by_devices IsRunning None (all c.args.with.now) (all c.devices_by.new.with) (all c.tell_slice.new.with) _ _ _ _ told.beside
           c.devices_by.ensures.beside
           (went_told _ _ _ _ _ _ _ _ _ _ c.in-Ok.events.items _ c.as_slice.ensures.value
           (devices_gone c.in-Ok.events.items c.args.world.now c.devices_by.new.world _ _ _ c.in-Ok.ensures.gone c.in-Ok.ensures.made c.in-Ok.ensures.asked) told.told

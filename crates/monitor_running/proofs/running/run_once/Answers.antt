@@ -2,7 +2,7 @@ use Rattle.std.proofs.Common.{◌∙◌, ap, refl, sym, None, Some}
 use Rattle.monitor_machine.specs.declared.machine.LiveMachine.{LiveMachine}
 use Rattle.monitor_machine.specs.State.{IsLive}
 use Rattle.monitor_running.specs.Paced.IsMachineTurn.{Off, Rest, World}
-use Rattle.monitor_running.proofs.Disks.{rests_same}
+use Rattle.monitor_running.proofs.Events.{rests_same}
 use Rattle.monitor_running.proofs.Lifts.{never_off, nothing_taken, slice_lifted, went_off, went_resting}
 use Rattle.monitor_running.proofs.Lent.{by_clock}
 use Rattle.monitor_running.proofs.Staying.{put_back}
@@ -20,7 +20,7 @@ returns-in_default-clause-went g c =
     (by_clock IsLive None (all c.args.with.now) now now _ _ _ _ refl rested.beside
     (went_resting IsLive _ _ _ _ _ _
     (nothing_taken c.args.machine.now c.take_running.new.self (sym c.in_default.ensures.running) c.in_default.ensures.left)
-    (record { clock = rested.rests; disk = rests_same _ })))
+    (record { clock = rested.rests; devices = rests_same _ })))
 
 pub put_guest-requires : goal.put_guest-requires
 put_guest-requires g c =

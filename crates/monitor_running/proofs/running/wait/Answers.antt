@@ -1,6 +1,6 @@
 use Rattle.std.proofs.Common.{refl, None}
 use Rattle.monitor_running.specs.Ran.{IsRunning}
-use Rattle.monitor_running.proofs.Disks.{rests_same}
+use Rattle.monitor_running.proofs.Events.{rests_same}
 use Rattle.monitor_running.proofs.Lifts.{went_resting}
 use Rattle.monitor_running.proofs.Lent.{by_clock}
 use Rattle.monitor_running.proofs.Staying.{stays_same}
@@ -15,7 +15,7 @@ returns g c =
     part_on None _ _ _ _ _ _ c.in_default.ensures (record {
       went =
           by_clock IsRunning None (all c.pass_round.new.with) now now _ _ _ _ refl rested.beside
-          (went_resting IsRunning _ _ _ _ _ _ refl (record { clock = rested.rests; disk = rests_same _ }));
+          (went_resting IsRunning _ _ _ _ _ _ refl (record { clock = rested.rests; devices = rests_same _ }));
       ready = stays_same _ _ refl;
       unclosed = λ is. cc;
     })

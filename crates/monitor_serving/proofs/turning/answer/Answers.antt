@@ -20,7 +20,7 @@ returns-in_default-clause-answered g c =
     λ sink before tell tells gave.
     subst (λ (k : TurnKnown). BreaksOff (served.Fault object.Trace) (view c.args.monitor.now (hosts (known_with was sink) (F c.args.files.now)) before)
     (view c.args.monitor.now (hosts (known_with k sink) (F c.args.files.now)) (N c.args.conn.now))) (sym c.tell_bytes.ensures.beside)
-    (untold c.args.monitor.now c.args.monitor.now was.trace told.trace sink was.host.clock was.host.disk (F c.args.files.now)
+    (untold c.args.monitor.now c.args.monitor.now was.trace told.trace sink was.host.clock was.host.devices (F c.args.files.now)
     (F c.args.files.now) before (N c.args.conn.now) (N c.args.conn.now) c.args.piece.items gave.came gave.untaken
     (c.in_default.ensures.untold tell.trace) refl)
 

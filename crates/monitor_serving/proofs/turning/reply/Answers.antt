@@ -13,7 +13,7 @@ returns-then-is_off-clause-replied g c =
     let N = g.N.Conn.known in
     let was = g.W.TurnObjects.known c.args.with.now in
     λ trace sink before is_told files_tell tells gave.
-    ignored c.args.monitor.now c.args.monitor.now trace was.trace sink was.host.clock was.host.disk (F c.args.files.now) (F c.args.files.now) before (N c.args.conn.now)
+    ignored c.args.monitor.now c.args.monitor.now trace was.trace sink was.host.clock was.host.devices (F c.args.files.now) (F c.args.files.now) before (N c.args.conn.now)
     (N c.args.conn.now) c.args.bytes.now gave.came gave.untaken is_told
     (λ m is. sym (c.is_off.ensures (F c.args.files.now) m is) ∙ c.if-is_off.true)
 
@@ -23,7 +23,7 @@ returns-in_default-clause-replied g c =
     let N = g.N.Conn.known in
     let was = g.W.TurnObjects.known c.args.with.now in
     λ trace sink before is_told files_tell tells gave.
-    short c.args.monitor.now c.hear.new.self trace was.trace sink was.host.clock was.host.disk (F c.args.files.now) (F c.hear.new.files) before (N c.args.conn.now)
+    short c.args.monitor.now c.hear.new.self trace was.trace sink was.host.clock was.host.devices (F c.args.files.now) (F c.hear.new.files) before (N c.args.conn.now)
     (N c.args.conn.now) c.args.bytes.now gave.came gave.untaken is_told
     (λ m is. sym (c.is_off.ensures (F c.args.files.now) m is) ∙ c.if-is_off.false) files_tell c.in_default.ensures.stops
 
@@ -36,10 +36,10 @@ returns-in_default-put_all-clause-replied g c =
     λ trace sink before is_told files_tell tells gave.
     subst (λ (k : TurnKnown). EndsConnection (view c.args.monitor.now (hosts (known trace sink was.host) (F c.args.files.now)) before)
     (view c.hear.new.self (hosts (known_with k sink) (F c.hear.new.files)) (N c.put_all.new.conn))) (sym c.attach.ensures.beside)
-    (over c.args.monitor.now c.hear.new.self trace was.trace sink was.host.clock was.host.disk (F c.args.files.now) (F c.hear.new.files) before (N c.args.conn.now)
+    (over c.args.monitor.now c.hear.new.self trace was.trace sink was.host.clock was.host.devices (F c.args.files.now) (F c.hear.new.files) before (N c.args.conn.now)
     (N c.put_all.new.conn) c.args.bytes.now gave.came gave.untaken is_told
     (λ m is. sym (c.is_off.ensures (F c.args.files.now) m is) ∙ c.if-is_off.false)
-    c.in-Ok.text files_tell c.in-Ok.ensures.goes (c.put_all.ensures.waits tells) now.host.disk c.attach.ensures.uncalled
+    c.in-Ok.text files_tell c.in-Ok.ensures.goes (c.put_all.ensures.waits tells) now.host.devices c.attach.ensures.uncalled
     (c.attach.ensures.attached (F c.hear.new.files)) c.put_all.result
     (subst (λ (l : List ℕ). TakesAll (N c.args.conn.now).took (N c.put_all.new.conn).took c.put_all.result l) c.as_slice.ensures
     (c.put_all.ensures.takes tells))
@@ -54,10 +54,10 @@ returns-then-is_failed-clause-replied g c =
     λ trace sink before is_told files_tell tells gave.
     subst (λ (k : TurnKnown). EndsConnection (view c.args.monitor.now (hosts (known trace sink was.host) (F c.args.files.now)) before)
     (view c.hear.new.self (hosts (known_with k sink) (F c.hear.new.files)) (N c.put_all.new.conn))) (sym c.attach.ensures.beside)
-    (over c.args.monitor.now c.hear.new.self trace was.trace sink was.host.clock was.host.disk (F c.args.files.now) (F c.hear.new.files) before (N c.args.conn.now)
+    (over c.args.monitor.now c.hear.new.self trace was.trace sink was.host.clock was.host.devices (F c.args.files.now) (F c.hear.new.files) before (N c.args.conn.now)
     (N c.put_all.new.conn) c.args.bytes.now gave.came gave.untaken is_told
     (λ m is. sym (c.is_off.ensures (F c.args.files.now) m is) ∙ c.if-is_off.false)
-    c.in-Ok.text files_tell c.in-Ok.ensures.goes (c.put_all.ensures.waits tells) now.host.disk c.attach.ensures.uncalled
+    c.in-Ok.text files_tell c.in-Ok.ensures.goes (c.put_all.ensures.waits tells) now.host.devices c.attach.ensures.uncalled
     (c.attach.ensures.attached (F c.hear.new.files)) c.put_all.result
     (subst (λ (l : List ℕ). TakesAll (N c.args.conn.now).took (N c.put_all.new.conn).took c.put_all.result l) c.as_slice.ensures
     (c.put_all.ensures.takes tells))
@@ -72,10 +72,10 @@ returns-clause-replied g c =
     λ trace sink before is_told files_tell tells gave.
     subst (λ (k : TurnKnown). StaysOpen (view c.args.monitor.now (hosts (known trace sink was.host) (F c.args.files.now)) before)
     (view c.hear.new.self (hosts (known_with k sink) (F c.hear.new.files)) (N c.put_all.new.conn))) (sym c.attach.ensures.beside)
-    (sent c.args.monitor.now c.hear.new.self trace was.trace sink was.host.clock was.host.disk (F c.args.files.now) (F c.hear.new.files) before (N c.args.conn.now)
+    (sent c.args.monitor.now c.hear.new.self trace was.trace sink was.host.clock was.host.devices (F c.args.files.now) (F c.hear.new.files) before (N c.args.conn.now)
     (N c.put_all.new.conn) c.args.bytes.now gave.came gave.untaken is_told
     (λ m is. sym (c.is_off.ensures (F c.args.files.now) m is) ∙ c.if-is_off.false)
-    c.in-Ok.text files_tell c.in-Ok.ensures.goes (c.put_all.ensures.waits tells) now.host.disk c.attach.ensures.uncalled
+    c.in-Ok.text files_tell c.in-Ok.ensures.goes (c.put_all.ensures.waits tells) now.host.devices c.attach.ensures.uncalled
     (c.attach.ensures.attached (F c.hear.new.files))
     (c.in-Ok-put_all.ensures.takes tells ∙ ap (λ (l : List ℕ). (N c.args.conn.now).took ++ l) c.as_slice.ensures))
 

@@ -1,11 +1,12 @@
 use Rattle.std.proofs.Common.{arith}
-use Rattle.monitor_machine.proofs.Attaching.{files_more, uncalled_more, uncalled_none}
+use Rattle.monitor_machine.specs.Kinds.{disks}
+use Rattle.monitor_machine.proofs.Attaching.{disks_beside, named_more, uncalled_more, uncalled_none}
 use Rattle.monitor_machine.proofs.machine.LiveMachine.attach_disks.Goals as goal
 
 pub loop-device-init : goal.loop-device-init
 loop-device-init g c = record {
   attached = λ k less. absurd (omega (arith, less));
-  uncalled = uncalled_none (g.D.Disk.known c.args.disk.now);
+  uncalled = uncalled_none disks disks_beside (g.D.Disk.known c.args.disk.now);
 }
 
 pub loop-device-preserved : goal.loop-device-preserved
@@ -14,7 +15,7 @@ loop-device-preserved g c =
     let before = c.loop-device.invariant in
     let after = c.attach_disk.ensures in record {
       attached =
-          files_more c.self.inside.config c.loop-device.device (D.known c.args.disk.now) (D.known c.loop-device.disk)
+          named_more disks c.self.inside.config c.loop-device.device (D.known c.args.disk.now) (D.known c.loop-device.disk)
           (D.known c.attach_disk.new.disk) before.uncalled before.attached after.attached after.others;
-      uncalled = uncalled_more _ _ _ before.uncalled after.uncalled;
+      uncalled = uncalled_more disks disks_beside _ _ _ before.uncalled after.uncalled;
     }

@@ -1,5 +1,5 @@
 use Rattle.std.proofs.Common.{rules}
-use Rattle.monitor_machine.proofs.machine.drives.attach_disk.Goals as goal
+use Rattle.monitor_machine.proofs.machine.objects.attach_link.Goals as goal
 
 pub returns-in-Some-clause-attached : goal.returns-in-Some-clause-attached
 returns-in-Some-clause-attached g c = search rules

@@ -1,11 +1,12 @@
 use Rattle.std.proofs.Common.{refl}
-use Rattle.monitor_running.proofs.devices.flush.Goals as goal
+use Rattle.monitor_running.proofs.asking.flush.Goals as goal
 
 pub returns-in-Ok-clause-given : goal.returns-in-Ok-clause-given
 returns-in-Ok-clause-given g c =
     let call = c.in-Ok.ensures in (
       refl,
       refl,
+      tt,
       record {
         lasts = call.called.lasts;
         failed = λ is. cc;
@@ -19,6 +20,7 @@ returns-in-Err-clause-given g c =
     let call = c.in-Err.ensures in (
       refl,
       refl,
+      tt,
       record {
         lasts = call.called.lasts;
         failed = λ is. call.called.failed;
