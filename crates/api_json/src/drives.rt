@@ -10,7 +10,7 @@ ghost use Rattle.api_json.specs.Tables.{form_of};
 use crate::body::{is_set, text, text_or_none};
 use crate::form::{Kind, Row};
 use crate::levels::{Form, Level, Together};
-use crate::limits::{BUCKET_ROWS, LIMITER_ROWS, limiter_at};
+use crate::limits::{BUCKET_ROWS, LIMITER_ROWS, limited_levels, limiter_at};
 use api_calls::{ApiCall, CacheType, Drive, DrivePatch};
 use serde_json::Value;
 use std::alloc::{AllocError, Global};
@@ -20,22 +20,6 @@ const LIMITS: Row = Row {
     name: "rate_limiter",
     required: false,
     kind: Kind::Group,
-};
-
-// Its limits, and the two buckets in them.
-const LIMITER: Level = Level {
-    place: &["rate_limiter"],
-    rows: &LIMITER_ROWS,
-};
-
-const BANDWIDTH: Level = Level {
-    place: &["rate_limiter", "bandwidth"],
-    rows: &BUCKET_ROWS,
-};
-
-const OPS: Level = Level {
-    place: &["rate_limiter", "ops"],
-    rows: &BUCKET_ROWS,
 };
 
 const PUT_ROWS: [Row; 6] = [
@@ -81,25 +65,9 @@ const PATCH_ROWS: [Row; 3] = [
     LIMITS,
 ];
 
-static PUT_LEVELS: [Level; 4] = [
-    Level {
-        place: &[],
-        rows: &PUT_ROWS,
-    },
-    LIMITER,
-    BANDWIDTH,
-    OPS,
-];
+static PUT_LEVELS: [Level; 4] = limited_levels![&PUT_ROWS; "rate_limiter"];
 
-static PATCH_LEVELS: [Level; 4] = [
-    Level {
-        place: &[],
-        rows: &PATCH_ROWS,
-    },
-    LIMITER,
-    BANDWIDTH,
-    OPS,
-];
+static PATCH_LEVELS: [Level; 4] = limited_levels![&PATCH_ROWS; "rate_limiter"];
 
 /// The fields of a PUT, where the path names the drive of this id.
 pub fn put_form(id: &[u8]) -> Form<'_>

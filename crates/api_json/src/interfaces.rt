@@ -10,7 +10,7 @@ use crate::addresses::lowered;
 use crate::body::{text, text_or_none};
 use crate::form::{Kind, Row};
 use crate::levels::{Form, Level, Together};
-use crate::limits::{BUCKET_ROWS, LIMITER_ROWS, limiter_at};
+use crate::limits::{BUCKET_ROWS, LIMITER_ROWS, limited_levels, limiter_at};
 use api_calls::{ApiCall, Interface, InterfacePatch};
 use serde_json::Value;
 use std::alloc::{AllocError, Global};
@@ -52,62 +52,10 @@ const PUT_ROWS: [Row; 5] = [
 
 const PATCH_ROWS: [Row; 3] = [ID, RX_LIMITS, TX_LIMITS];
 
-// The limits of each direction, and the two buckets in them.
-const RX_LIMITER: Level = Level {
-    place: &["rx_rate_limiter"],
-    rows: &LIMITER_ROWS,
-};
+static PUT_LEVELS: [Level; 7] = limited_levels![&PUT_ROWS; "rx_rate_limiter", "tx_rate_limiter"];
 
-const RX_BANDWIDTH: Level = Level {
-    place: &["rx_rate_limiter", "bandwidth"],
-    rows: &BUCKET_ROWS,
-};
-
-const RX_OPS: Level = Level {
-    place: &["rx_rate_limiter", "ops"],
-    rows: &BUCKET_ROWS,
-};
-
-const TX_LIMITER: Level = Level {
-    place: &["tx_rate_limiter"],
-    rows: &LIMITER_ROWS,
-};
-
-const TX_BANDWIDTH: Level = Level {
-    place: &["tx_rate_limiter", "bandwidth"],
-    rows: &BUCKET_ROWS,
-};
-
-const TX_OPS: Level = Level {
-    place: &["tx_rate_limiter", "ops"],
-    rows: &BUCKET_ROWS,
-};
-
-static PUT_LEVELS: [Level; 7] = [
-    Level {
-        place: &[],
-        rows: &PUT_ROWS,
-    },
-    RX_LIMITER,
-    RX_BANDWIDTH,
-    RX_OPS,
-    TX_LIMITER,
-    TX_BANDWIDTH,
-    TX_OPS,
-];
-
-static PATCH_LEVELS: [Level; 7] = [
-    Level {
-        place: &[],
-        rows: &PATCH_ROWS,
-    },
-    RX_LIMITER,
-    RX_BANDWIDTH,
-    RX_OPS,
-    TX_LIMITER,
-    TX_BANDWIDTH,
-    TX_OPS,
-];
+static PATCH_LEVELS: [Level; 7] =
+    limited_levels![&PATCH_ROWS; "rx_rate_limiter", "tx_rate_limiter"];
 
 /// The fields of a PUT, where the path names the interface of this id.
 pub fn put_form(id: &[u8]) -> Form<'_>

@@ -43,6 +43,35 @@ pub const BUCKET_ROWS: [Row; 3] = [
     },
 ];
 
+/// The levels of a body with these rows: the fields of the body itself, then for each of these names the limits in the field of that name and
+/// the two buckets in them.
+macro_rules! limited_levels {
+    ($rows:expr; $($name:literal),+) => {
+        [
+            Level {
+                place: &[],
+                rows: $rows,
+            },
+            $(
+                Level {
+                    place: &[$name],
+                    rows: &LIMITER_ROWS,
+                },
+                Level {
+                    place: &[$name, "bandwidth"],
+                    rows: &BUCKET_ROWS,
+                },
+                Level {
+                    place: &[$name, "ops"],
+                    rows: &BUCKET_ROWS,
+                },
+            )+
+        ]
+    };
+}
+
+pub(crate) use limited_levels;
+
 fn bucket_of(object: &Value) -> BucketConfig
     ensures { result ≡ call.bucket_of (view object.now) }
 {

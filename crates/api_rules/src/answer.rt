@@ -1,11 +1,11 @@
 // What calls are answered.
 ghost use Rattle.std.specs.Prelude.{◌≡◌, IfOk};
+ghost use Rattle.vm_config.specs.Views.{told_in};
 ghost use Rattle.api_rules.specs.Answers.{accepted, no_content, refused};
 
-use metadata_store::Store;
 use refusals::{Refusal, fault_text};
 use std::alloc::{AllocError, Global};
-use vm_config::{Change, Config, Phase, Statistics};
+use vm_config::{Change, MachineView};
 use vm_types::ByteList;
 
 const OK: u16 = 200;
@@ -39,29 +39,18 @@ pub fn fault_answer(alloc: Global, refusal: Refusal) -> Result<Answer, AllocErro
     })
 }
 
-/// What an accepted call is answered by the machine of this id in this phase, with these metadata and, where a balloon runs,
-/// what that tells.
+/// What an accepted call is answered by the machine that is seen so.
 pub fn accepted_answer(
     alloc: Global,
     change: &Change,
-    id: &str,
-    phase: Phase,
-    config: &Config,
-    metadata: &Store,
-    statistics: Option<Statistics>,
+    machine: &MachineView<'_>,
 ) -> Result<Answer, AllocError>
-    ensures { IfOk result (λ answer. answer ≡ accepted change.now (record {
-      id = id.now;
-      phase = phase;
-      config = config.now;
-      metadata = metadata.now;
-      statistics = statistics;
-    })) }
+    ensures { IfOk result (λ answer. answer ≡ accepted change.now (told_in machine.now)) }
 {
     match change {
         Change::Tell(part) => Ok(Answer {
             status: OK,
-            body: Some(config.json(alloc, *part, id, phase, metadata, statistics)?),
+            body: Some(machine.json(alloc, *part)?),
         }),
         _ => Ok(done_answer()),
     }

@@ -1,15 +1,16 @@
 // What comes of something that is due on the connection.
 ghost use Rattle.std.specs.Prelude.{◌≡◌, IfOk};
+ghost use Rattle.vm_config.specs.Views.{told_in};
 ghost use Rattle.monitor_plans.specs.Plans.{plan_answer};
 
 use crate::creating::Creation;
 use crate::drive_changes::Resize;
 use crate::restoring::Restored;
-use api_rules::{Answer, Change, Config, Phase, accepted_answer, done_answer, fault_answer};
+use api_rules::{Answer, Change, accepted_answer, done_answer, fault_answer};
 use metadata_store::Store;
 use refusals::Refusal;
 use std::alloc::{AllocError, Global};
-use vm_config::{Drives, Interfaces, Statistics};
+use vm_config::{Drives, Interfaces, MachineView};
 use vm_world::World;
 
 /// What comes of a request, where no file is left to be written: it is refused; it changes this; the drives are these; the
@@ -37,30 +38,13 @@ pub enum Task {
 }
 
 impl Plan {
-    /// What the machine of this id in this phase, with this configuration, these metadata and what its balloon tells, answers.
-    pub fn answer(
-        &self,
-        alloc: Global,
-        id: &str,
-        phase: Phase,
-        config: &Config,
-        metadata: &Store,
-        statistics: Option<Statistics>,
-    ) -> Result<Answer, AllocError>
-        ensures { IfOk result (λ answer. answer
-            ≡ plan_answer self.now (record {
-              id = id.now;
-              phase = phase;
-              config = config.now;
-              metadata = metadata.now;
-              statistics = statistics;
-            })) }
+    /// What the machine that is seen so answers.
+    pub fn answer(&self, alloc: Global, machine: &MachineView<'_>) -> Result<Answer, AllocError>
+        ensures { IfOk result (λ answer. answer ≡ plan_answer self.now (told_in machine.now)) }
     {
         match self {
             Plan::Refused(why) => fault_answer(alloc, *why),
-            Plan::Changes(change) => {
-                accepted_answer(alloc, change, id, phase, config, metadata, statistics)
-            },
+            Plan::Changes(change) => accepted_answer(alloc, change, machine),
             Plan::Drives(_) | Plan::Interfaces(_) | Plan::Resizes(_) => Ok(done_answer()),
             Plan::Stores(_) | Plan::Starts(_) | Plan::Restores(_) => Ok(done_answer()),
             Plan::FilesFailed => fault_answer(alloc, Refusal::OutsideFailed),

@@ -1,4 +1,4 @@
--- Which turns several harts make side by side, as a slice, and which one after another, in rotation.
+-- Which turns several harts make side by side, as a slice, and which one after another, in rotation, by what steers them.
 use Rattle.std.specs.Prelude.{ℕ, zero, suc, ◌≡◌, ◌≢◌, ◌+◌, ◌/◌, ◌≤◌, min, List, Option, Some, None, All, length}
 use Rattle.pause_gate.specs.Tally.{Tally}
 use Rattle.vm_types.specs.declared.entry.Entry.{Entry}
@@ -11,6 +11,7 @@ use Rattle.monitor_machine.specs.declared.machine.LiveMachine.{LiveMachine}
 use Rattle.monitor_machine.specs.Running.{running_world}
 use Rattle.monitor_running.specs.declared.ran.Ran.{Ran}
 use Rattle.monitor_running.specs.declared.ran.Ran.TheVariants as ran
+use Rattle.monitor_running.specs.declared.steering.Steering.{Steering}
 use Rattle.monitor_running.specs.Devices.{IsDevices}
 use Rattle.monitor_running.specs.Passes.{ArePassed}
 use Rattle.monitor_running.specs.Staying.{MayBeDrained}
@@ -37,18 +38,26 @@ pub record WasSliced {Q : Type 0} (tally : Q → Tally) (steps : ℕ) (old : Wor
   pub stopped : AreStopped tally (slice_steps steps old) events mid stops before after
   pub drained : MayBeDrained mid new
 
--- How a turn of harts was made, and how many turns may be made in rotation before the next slice, before it and behind it.
-pub data IsPaced {Q : Type 0} (tally : Q → Tally) (steps : ℕ) (end : Option Ran) (was left : ℕ) (old : WorldValue) (before : List Q)
-    (new : WorldValue) (after : List Q) : Type 0 where
+-- How a turn of harts was made, by what steered it before it, and what steers the next one. The pace has how many turns may be made in
+-- rotation before the next slice.
+pub data IsPaced {Q : Type 0} (tally : Q → Tally) (end : Option Ran) (was : Steering Q) (old : WorldValue) (now : Steering Q)
+    (new : WorldValue) : Type 0 where
   -- where none may, a slice is: behind it so many may
-  Slice : AreSeveral (length before) old → was ≡ 0 → left ≤ 99 → WasSliced tally steps old before new after
-      → IsPaced tally steps end was left old before new after
+  Slice : AreSeveral (length was.passes.items) old → was.pace.left ≡ 0 → now.pace.left ≤ 10000
+      → WasSliced tally was.pace.steps old was.passes.items new now.passes.items → IsPaced tally end was old now new
   -- for which memory was wanting
-  Lacking : end ≡ Some ran.OutOfMemory → left ≡ was → after ≡ before → IsPaced tally steps end was left old before new after
+  Lacking : end ≡ Some ran.OutOfMemory → now.pace.left ≡ was.pace.left → now.passes.items ≡ was.passes.items
+      → IsPaced tally end was old now new
   -- else a rotation, which is one of them
-  Rotation : AreSeveral (length before) old → was ≡ left + 1 → IsPaced tally steps end was left old before new after
+  Rotation : AreSeveral (length was.passes.items) old → was.pace.left ≡ now.pace.left + 1 → IsPaced tally end was old now new
   -- no two harts have something to do
-  Other : (AreSeveral (length before) old → ⊥) → left ≡ was → IsPaced tally steps end was left old before new after
+  Other : (AreSeveral (length was.passes.items) old → ⊥) → now.pace.left ≡ was.pace.left → IsPaced tally end was old now new
+
+-- the passes are the same, and as many steps and rotations are left
+pub record SteersAlike {Q : Type 0} (was now : Steering Q) : Type 0 where
+  pub passes : now.passes.items ≡ was.passes.items
+  pub steps : now.pace.steps ≡ was.pace.steps
+  pub left : now.pace.left ≡ was.pace.left
 
 -- the devices acted, and the console may be drained behind that
 pub record HasActed (old new : WorldValue) : Type 0 where
@@ -59,34 +68,38 @@ pub record HasActed (old new : WorldValue) : Type 0 where
   pub drained : MayBeDrained mid new
 
 -- a turn of a world: the devices act, and then the harts, unless that was the end
-pub data IsWorldTurn {Q : Type 0} (tally : Q → Tally) (steps : ℕ) (end : Option Ran) (was left : ℕ) (old : WorldValue)
-    (before : List Q) (new : WorldValue) (after : List Q) : Type 0 where
-  Devices : end ≢ None → left ≡ was → after ≡ before → IsWorldTurn tally steps end was left old before new after
-  Harts : (mid : WorldValue) → HasActed old mid → IsPaced tally steps end was left mid before new after
-      → IsWorldTurn tally steps end was left old before new after
+pub data IsWorldTurn {Q : Type 0} (tally : Q → Tally) (end : Option Ran) (was : Steering Q) (old : WorldValue) (now : Steering Q)
+    (new : WorldValue) : Type 0 where
+  Devices : end ≢ None → now.pace.left ≡ was.pace.left → now.passes.items ≡ was.passes.items → IsWorldTurn tally end was old now new
+  Harts : (mid : WorldValue) (met : Steering Q) → HasActed old mid → SteersAlike was met → IsPaced tally end met mid now new
+      → IsWorldTurn tally end was old now new
 
 -- a turn of a machine: of its world, if its guest runs, and none where the guest is off
-pub data IsMachineTurn {Q : Type 0} (tally : Q → Tally) (steps : ℕ) (end : Option Ran) (was left : ℕ) (old : LiveMachine)
-    (before : List Q) (new : LiveMachine) (after : List Q) : Type 0 where
-  Off : end ≡ Some ran.Off → left ≡ was → IsMachineTurn tally steps end was left old before new after
-  Rest : running_world old.guest old.paused ≡ None → left ≡ was → IsMachineTurn tally steps end was left old before new after
+pub data IsMachineTurn {Q : Type 0} (tally : Q → Tally) (end : Option Ran) (was : Steering Q) (old : LiveMachine) (now : Steering Q)
+    (new : LiveMachine) : Type 0 where
+  Off : end ≡ Some ran.Off → now.pace.left ≡ was.pace.left → IsMachineTurn tally end was old now new
+  Rest : running_world old.guest old.paused ≡ None → now.pace.left ≡ was.pace.left → IsMachineTurn tally end was old now new
   World : (w v : WorldValue) → running_world old.guest old.paused ≡ Some w → new ≡ record old { guest = Some v }
-      → IsWorldTurn tally steps end was left w before v after → IsMachineTurn tally steps end was left old before new after
+      → IsWorldTurn tally end was w now v → IsMachineTurn tally end was old now new
 
--- So many turns were made one behind another, the gate was found open before each of them, and each went on. At the start no
--- rotation may be made: so the first turn of several harts is a slice, and one of a hundred is.
-abbrev pub ArePaced : {Q : Type 0} → (Q → Type 0) → (Q → Tally) → ℕ → ℕ → LiveMachine → List Q → ℕ → LiveMachine → List Q → Type 0
-ArePaced serves tally steps zero old before left new after = (left ≡ 0) × (new ≡ old) × (after ≡ before)
-ArePaced {Q} serves tally steps (suc n) old before left new after =
-    (was : ℕ) × (mid : LiveMachine) × (passes : List Q) × (asked : List Q)
-    × ArePaced serves tally steps n old before was mid passes × ArePassed serves tally None passes asked
-    × IsMachineTurn tally steps None was left mid asked new after
+-- the gate was found open, with the first pass, and else nothing is another
+pub record HasAsked {Q : Type 0} (serves : Q → Type 0) (tally : Q → Tally) (was now : Steering Q) : Type 0 where
+  pub passes : ArePassed serves tally None was.passes.items now.passes.items
+  pub pace : now.pace ≡ was.pace
+
+-- So many turns were made one behind another, the gate was found open before each of them, and each went on. Behind a pace that is new
+-- the first turn of several harts is a slice, and one of 10,001 is.
+abbrev pub ArePaced : {Q : Type 0} → (Q → Type 0) → (Q → Tally) → ℕ → Steering Q → LiveMachine → Steering Q → LiveMachine → Type 0
+ArePaced serves tally zero was old now new = (now ≡ was) × (new ≡ old)
+ArePaced {Q} serves tally (suc n) was old now new =
+    (before : Steering Q) × (asked : Steering Q) × (mid : LiveMachine)
+    × ArePaced serves tally n was old before mid × HasAsked serves tally before asked × IsMachineTurn tally None asked mid now new
 
 -- and then the gate was found closed, or one turn more was the end
-pub data EndsPaced {Q : Type 0} (serves : Q → Type 0) (tally : Q → Tally) (steps : ℕ) (end : Ran) (old : LiveMachine) (before : List Q)
-    (new : LiveMachine) (after : List Q) : Type 0 where
-  Shut : (n left : ℕ) (passes : List Q) → ArePaced serves tally steps n old before left new passes
-      → ArePassed serves tally (Some ran.Closed) passes after → EndsPaced serves tally steps end old before new after
-  Ended : (n was left : ℕ) (mid : LiveMachine) (passes asked : List Q) → ArePaced serves tally steps n old before was mid passes
-      → ArePassed serves tally None passes asked → IsMachineTurn tally steps (Some end) was left mid asked new after
-      → EndsPaced serves tally steps end old before new after
+pub data EndsPaced {Q : Type 0} (serves : Q → Type 0) (tally : Q → Tally) (end : Ran) (was : Steering Q) (old : LiveMachine)
+    (now : Steering Q) (new : LiveMachine) : Type 0 where
+  Shut : (n : ℕ) (before : Steering Q) → ArePaced serves tally n was old before new → now.pace ≡ before.pace
+      → ArePassed serves tally (Some ran.Closed) before.passes.items now.passes.items → EndsPaced serves tally end was old now new
+  Ended : (n : ℕ) (before asked : Steering Q) (mid : LiveMachine) → ArePaced serves tally n was old before mid
+      → HasAsked serves tally before asked → IsMachineTurn tally (Some end) asked mid now new
+      → EndsPaced serves tally end was old now new

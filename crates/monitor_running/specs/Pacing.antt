@@ -53,10 +53,14 @@ abbrev pub slice_until : Pace → ℕ → ℕ → Option ℕ
 slice_until pace before ended =
     if is_at pace.ended before then cost_or pace.made pace.slice ended else pace.slice
 
+-- so many rotations take eight times as long as a slice of as many events: 99 at least, and 10,000 at most
+abbrev pub many : ℕ → ℕ → ℕ
+many slice rotation = max (min (slice / max rotation 1) 1250 * 8) 99
+
 -- how many rotations may follow so many slices in a row, by what a slice and a rotation cost
 abbrev pub rotations_by : ℕ → ℕ → ℕ → ℕ
 rotations_by slices slice rotation =
-    if nat_lt rotation slice then 99 else (if nat_lt slices 99 then 0 else 2)
+    if nat_lt rotation slice then many slice rotation else (if nat_lt slices 99 then 0 else 2)
 
 -- and two where one of them isn't known
 abbrev pub rotations : ℕ → Option ℕ → Option ℕ → ℕ

@@ -6,7 +6,7 @@
 //! the sink, its item to the trace first, unless the sink isn't ready: then the console keeps it. Before each turn the devices act, and their disks, links and sockets answer them (`devices`, `asking`); where
 //! every hart waits a few events are made in place of a slice (`waiting`). So what the trace took is a run of the flat
 //! machine that leaves the machine and shows what the sink took, and where turns end early the sink took a front of what
-//! the trace says. What turns are given is one object (`objects`), of which one ghost fact is known. `flat_trace` has what an item of a trace does, `specs/Reached.antt` what is kept, `specs/Asked.antt` what
+//! the trace says. What turns are given is one object (`objects`), of which one ghost fact is known, and what steers them another (`steering`). `flat_trace` has what an item of a trace does, `specs/Reached.antt` what is kept, `specs/Asked.antt` what
 //! the clock and the objects of devices were asked, and `specs/Ran.antt` how turns go and end.
 #![tactic(auto)]
 
@@ -19,6 +19,7 @@ mod pacing;
 mod ran;
 mod rotating;
 mod running;
+mod steering;
 mod telling;
 mod waiting;
 mod working;
@@ -28,4 +29,5 @@ pub use objects::{TracedHost, TurnObjects};
 pub use pacing::Pace;
 pub use ran::Ran;
 pub use running::{end_of_closed, run_once, run_while};
+pub use steering::Steering;
 pub use waiting::is_quiet;

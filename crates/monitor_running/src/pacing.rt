@@ -1,12 +1,19 @@
 // Which turns of several harts are slices, and how long a turn in which all harts wait may rest.
 ghost use Rattle.std.specs.Prelude.{◌≡◌, ◌↔◌, ◌≤◌, ◌-◌, min, true, false};
 ghost use Rattle.std.specs.List.{list_any};
-ghost use Rattle.monitor_running.specs.Pacing.{after_rotation, after_slice, ask_time, cost, is_at, is_time_asked, made_from, new_pace, rotations, rotations_by, slice_until};
+ghost use Rattle.monitor_running.specs.Pacing.{after_rotation, after_slice, ask_time, cost, is_at, is_time_asked, made_from, many, new_pace, rotations, rotations_by, slice_until};
 
 use vm_types::{BoardOp, Entry, Op};
 
-/// Behind a slice so many turns are made in rotation at most, so that of a hundred turns one is a slice at least.
-const MOST_ROTATIONS: u32 = 99;
+/// Where rotations cost less, so many are made behind a slice as take eight times as long as it does, so that slices take a ninth of
+/// the time.
+const ROTATIONS_FOR_ONE: u32 = 8;
+
+/// But so many at least.
+const LEAST_ROTATIONS: u32 = 99;
+
+/// A slice that takes longer counts as one that takes so many times as long as a rotation: 10,000 rotations are made behind it.
+const MOST_TIMES: u64 = 1_250;
 
 /// Behind so many slices in a row rotations are tried again.
 const MOST_SLICES: u32 = 99;
@@ -32,6 +39,15 @@ fn cost(made: Made, ended: u64) -> u64
     ensures { result ≡ cost made ended }
 {
     ended.saturating_sub(made.began).min(MOST_TIME) * 1_000 / made.events.max(1)
+}
+
+// How many rotations take eight times as long as a slice.
+fn many(slice: u64, rotation: u64) -> u32
+    ensures value { result ≡ many slice rotation }
+    ensures most { result ≤ 10000 }
+{
+    let times = (slice / rotation.max(1)).min(MOST_TIMES) as u32;
+    (times * ROTATIONS_FOR_ONE).max(LEAST_ROTATIONS)
 }
 
 // Whether a device asks guest time.
@@ -121,7 +137,7 @@ impl Pace {
     /// A slice of so many events was made, and guest time was read at these moments.
     pub(crate) fn told_slice(&mut self, events: u64, began: u64, ended: u64)
         ensures after { self.new ≡ after_slice events began ended self.old }
-        ensures most { self.new.left ≤ 99 }
+        ensures most { self.new.left ≤ 10000 }
     {
         self.made = self.made_from(events, began);
         self.ended = Some(ended);
@@ -177,7 +193,7 @@ impl Pace {
     // How many rotations may follow a slice.
     fn rotations(&self) -> u32
         ensures value { result ≡ rotations self.now.slices self.now.slice self.now.rotation }
-        ensures most { result ≤ 99 }
+        ensures most { result ≤ 10000 }
     {
         match (self.slice, self.rotation) {
             (Some(slice), Some(rotation)) => self.rotations_by(slice, rotation),
@@ -188,10 +204,10 @@ impl Pace {
     // By what both cost.
     fn rotations_by(&self, slice: u64, rotation: u64) -> u32
         ensures value { result ≡ rotations_by self.now.slices slice rotation }
-        ensures most { result ≤ 99 }
+        ensures most { result ≤ 10000 }
     {
         if slice > rotation {
-            return MOST_ROTATIONS;
+            return many(slice, rotation);
         }
         if self.slices < MOST_SLICES {
             return 0;

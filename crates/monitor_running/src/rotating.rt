@@ -5,8 +5,8 @@ ghost use Rattle.monitor_running.specs.Turned.{IsTurn};
 
 use crate::alone::{MOST_ALONE, Turn, run_burst};
 use crate::objects::TurnObjects;
-use crate::pacing::Pace;
 use crate::ran::Ran;
+use crate::steering::Steering;
 use crate::waiting::{pass_round, waits};
 use guest_memory::HART_LIMIT;
 use pause_gate::Gate;
@@ -105,18 +105,17 @@ pub fn run_in_rotation<Q, W: TurnObjects, G: Gate<Pass = Q>, K: Sink>(
     world: &mut World,
     with: &mut W,
     gate: &G,
-    passes: &mut Vec<Q>,
-    pace: &mut Pace,
+    steering: &mut Steering<Q>,
     sink: &mut K,
 ) -> Option<Ran>
     requires harts { length world.old.harts ≤ 32 }
-    requires some { 0 < length passes.old.items }
-    requires serve { All (G.serves gate.now) passes.old.items }
+    requires some { 0 < length steering.old.passes.items }
+    requires serve { All (G.serves gate.now) steering.old.passes.items }
     ensures turn { IsTurn (G.serves gate.now) G.tally result
-        (known_with (W.known with.old) (K.known sink.old)) world.old passes.old.items
-        (known_with (W.known with.new) (K.known sink.new)) world.new passes.new.items }
-    ensures left { pace.new.left ≡ pace.old.left }
-    ensures steps { pace.new.steps ≡ pace.old.steps }
+        (known_with (W.known with.old) (K.known sink.old)) world.old steering.old.passes.items
+        (known_with (W.known with.new) (K.known sink.new)) world.new steering.new.passes.items }
+    ensures left { steering.new.pace.left ≡ steering.old.pace.left }
+    ensures steps { steering.new.pace.steps ≡ steering.old.pace.steps }
 {
     let before = world.board().now();
     if let Some(end) = pass_round(alloc, world, with, None, sink) {
@@ -126,9 +125,11 @@ pub fn run_in_rotation<Q, W: TurnObjects, G: Gate<Pass = Q>, K: Sink>(
         return None;
     }
     let began = world.board().now();
-    let most = most_each(world, pace.steps);
+    let most = most_each(world, steering.pace.steps);
     let mut turn = Turn::new(0, most);
+    let passes = &mut steering.passes;
     let end = run_and_pass(alloc, world, with, gate, passes, &mut turn, sink);
-    pace.told_rotation(turn.made, before, began, world.board().now());
+    let ended = world.board().now();
+    steering.pace.told_rotation(turn.made, before, began, ended);
     end
 }

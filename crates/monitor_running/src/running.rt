@@ -23,6 +23,7 @@ use crate::objects::TurnObjects;
 use crate::pacing::Pace;
 use crate::ran::Ran;
 use crate::rotating::run_in_rotation;
+use crate::steering::Steering;
 use crate::telling::{end_by, tell_slice};
 use crate::waiting::{all_wait, pass_round, time_left};
 use crate::working::device_works;
@@ -107,30 +108,32 @@ fn run_guest<
     world: &mut World,
     with: &mut W,
     gate: &G,
-    passes: &mut Vec<Q>,
-    pace: &mut Pace,
+    steering: &mut Steering<Q>,
     sink: &mut K,
 ) -> Option<Ran>
     requires harts { length world.old.harts ≤ 32 }
-    requires passes { length world.old.harts + 1 ≤ length passes.old.items }
-    requires serve { All (G.serves gate.now) passes.old.items }
+    requires passes { length world.old.harts + 1 ≤ length steering.old.passes.items }
+    requires serve { All (G.serves gate.now) steering.old.passes.items }
     ensures turn { IsTurn (G.serves gate.now) G.tally result
-        (known_with (W.known with.old) (K.known sink.old)) world.old passes.old.items
-        (known_with (W.known with.new) (K.known sink.new)) world.new passes.new.items }
-    ensures paced { AreSeveral (length passes.old.items) world.old → pace.old.left ≡ 0 →
-        IsPaced G.tally pace.old.steps result pace.old.left pace.new.left
-        world.old passes.old.items world.new passes.new.items }
-    ensures steps { pace.new.steps ≡ pace.old.steps }
+        (known_with (W.known with.old) (K.known sink.old)) world.old steering.old.passes.items
+        (known_with (W.known with.new) (K.known sink.new)) world.new steering.new.passes.items }
+    ensures paced { AreSeveral (length steering.old.passes.items) world.old → steering.old.pace.left ≡ 0 →
+        IsPaced G.tally result steering.old world.old steering.new world.new }
+    ensures steps { steering.new.pace.steps ≡ steering.old.pace.steps }
 {
     let began = world.board().now();
-    let each = steps_each(world, pace.steps);
+    let each = steps_each(world, steering.pace.steps);
+    let passes = &mut steering.passes;
     let Ok(slice) = slice_by(rt, alloc, world, with, gate, passes, each) else {
         return Some(Ran::OutOfMemory);
     };
     if let Err(why) = tell_slice(slice.events.as_slice(), world, with, sink) {
         return Some(end_by(why));
     }
-    pace.told_slice(slice.events.len() as u64, began, world.board().now());
+    let ended = world.board().now();
+    steering
+        .pace
+        .told_slice(slice.events.len() as u64, began, ended);
     None
 }
 
@@ -246,25 +249,23 @@ fn run_several<
     world: &mut World,
     with: &mut W,
     gate: &G,
-    passes: &mut Vec<Q>,
-    pace: &mut Pace,
+    steering: &mut Steering<Q>,
     sink: &mut K,
 ) -> Option<Ran>
     requires harts { length world.old.harts ≤ 32 }
-    requires passes { length world.old.harts + 1 ≤ length passes.old.items }
-    requires serve { All (G.serves gate.now) passes.old.items }
+    requires passes { length world.old.harts + 1 ≤ length steering.old.passes.items }
+    requires serve { All (G.serves gate.now) steering.old.passes.items }
     ensures turn { IsTurn (G.serves gate.now) G.tally result
-        (known_with (W.known with.old) (K.known sink.old)) world.old passes.old.items
-        (known_with (W.known with.new) (K.known sink.new)) world.new passes.new.items }
-    ensures paced { AreSeveral (length passes.old.items) world.old →
-        IsPaced G.tally pace.old.steps result pace.old.left pace.new.left
-        world.old passes.old.items world.new passes.new.items }
-    ensures steps { pace.new.steps ≡ pace.old.steps }
+        (known_with (W.known with.old) (K.known sink.old)) world.old steering.old.passes.items
+        (known_with (W.known with.new) (K.known sink.new)) world.new steering.new.passes.items }
+    ensures paced { AreSeveral (length steering.old.passes.items) world.old →
+        IsPaced G.tally result steering.old world.old steering.new world.new }
+    ensures steps { steering.new.pace.steps ≡ steering.old.pace.steps }
 {
-    if pace.is_slice_due() {
-        return run_guest(rt, alloc, world, with, gate, passes, pace, sink);
+    if steering.pace.is_slice_due() {
+        return run_guest(rt, alloc, world, with, gate, steering, sink);
     }
-    run_in_rotation(alloc, world, with, gate, passes, pace, sink)
+    run_in_rotation(alloc, world, with, gate, steering, sink)
 }
 
 // A turn of several harts, where each hart and the timer has a pass and two harts have something to do. A turn of one hart, where it
@@ -281,30 +282,29 @@ fn run_or_wait<
     world: &mut World,
     with: &mut W,
     gate: &G,
-    passes: &mut Vec<Q>,
-    pace: &mut Pace,
+    steering: &mut Steering<Q>,
     sink: &mut K,
 ) -> Option<Ran>
-    requires { All (G.serves gate.now) passes.old.items }
+    requires { All (G.serves gate.now) steering.old.passes.items }
     ensures turn { IsTurn (G.serves gate.now) G.tally result
-        (known_with (W.known with.old) (K.known sink.old)) world.old passes.old.items
-        (known_with (W.known with.new) (K.known sink.new)) world.new passes.new.items }
-    ensures paced { IsPaced G.tally pace.old.steps result pace.old.left pace.new.left
-        world.old passes.old.items world.new passes.new.items }
-    ensures steps { pace.new.steps ≡ pace.old.steps }
+        (known_with (W.known with.old) (K.known sink.old)) world.old steering.old.passes.items
+        (known_with (W.known with.new) (K.known sink.new)) world.new steering.new.passes.items }
+    ensures paced { IsPaced G.tally result steering.old world.old steering.new world.new }
+    ensures steps { steering.new.pace.steps ≡ steering.old.pace.steps }
 {
-    if !has_passes(world, passes.len()) {
+    if !has_passes(world, steering.passes.len()) {
         rest_long(with);
         return None;
     }
     if all_wait(world) {
-        return wait(alloc, world, with, pace, sink);
+        return wait(alloc, world, with, &steering.pace, sink);
     }
     if let Some(hart) = lone_hart(world) {
-        let mut turn = Turn::new(hart, pace.steps.min(MOST_ALONE));
+        let mut turn = Turn::new(hart, steering.pace.steps.min(MOST_ALONE));
+        let passes = &mut steering.passes;
         return run_alone(alloc, world, with, gate, passes, &mut turn, sink);
     }
-    run_several(rt, alloc, world, with, gate, passes, pace, sink)
+    run_several(rt, alloc, world, with, gate, steering, sink)
 }
 
 // The devices act, and then the harts and the timer.
@@ -320,22 +320,20 @@ fn run_world<
     world: &mut World,
     with: &mut W,
     gate: &G,
-    passes: &mut Vec<Q>,
-    pace: &mut Pace,
+    steering: &mut Steering<Q>,
     sink: &mut K,
 ) -> Option<Ran>
-    requires { All (G.serves gate.now) passes.old.items }
+    requires { All (G.serves gate.now) steering.old.passes.items }
     ensures turn { IsTurn (G.serves gate.now) G.tally result
-        (known_with (W.known with.old) (K.known sink.old)) world.old passes.old.items
-        (known_with (W.known with.new) (K.known sink.new)) world.new passes.new.items }
-    ensures paced { IsWorldTurn G.tally pace.old.steps result pace.old.left pace.new.left
-        world.old passes.old.items world.new passes.new.items }
-    ensures steps { pace.new.steps ≡ pace.old.steps }
+        (known_with (W.known with.old) (K.known sink.old)) world.old steering.old.passes.items
+        (known_with (W.known with.new) (K.known sink.new)) world.new steering.new.passes.items }
+    ensures paced { IsWorldTurn G.tally result steering.old world.old steering.new world.new }
+    ensures steps { steering.new.pace.steps ≡ steering.old.pace.steps }
 {
-    if let Some(end) = act(alloc, world, with, pace, sink) {
+    if let Some(end) = act(alloc, world, with, &mut steering.pace, sink) {
         return Some(end);
     }
-    run_or_wait(rt, alloc, world, with, gate, passes, pace, sink)
+    run_or_wait(rt, alloc, world, with, gate, steering, sink)
 }
 
 /// One turn of a machine. Before it the devices act without the gate (`run_devices`), each of them 4,096 events at most, and all of
@@ -345,8 +343,8 @@ fn run_world<
 /// Where two harts or more have something to do the turn is a slice, of the pace's `steps` at most of each actor, and 65,536 of all of
 /// them. An actor asks the gate with a pass of its own before each step. Or it is a rotation, in one thread: two events of the timer
 /// and of each hart, then events of one hart after another, and the two events of each once more. The pace says which (`Pace`): a
-/// rotation where it made its events in less time than a slice when both were made last, and a slice the first time, and once in a
-/// hundred turns at least. Where one hart alone has something to do, and each other one waits, it is two events of the timer and of each
+/// rotation where it made its events in less time than a slice when both were made last, and a slice the first time, and once in
+/// 10,001 turns at least. Where one hart alone has something to do, and each other one waits, it is two events of the timer and of each
 /// other hart, and then, where these wait still, events of that hart. In one thread a hart has events until it waits or the gate is
 /// closed, which is asked with the first pass after every 1,023 of them, `steps` at most, and 49,152 of all harts: no slice is opened. Where every hart waits it is two events of the timer and of each
 /// hart, without the gate, and where all of them wait still, the clock rests, until the next timer interrupt is due at most, and a
@@ -369,20 +367,18 @@ pub fn run_once<
     machine: &mut LiveMachine,
     with: &mut W,
     gate: &G,
-    passes: &mut Vec<Q>,
-    pace: &mut Pace,
+    steering: &mut Steering<Q>,
     sink: &mut K,
 ) -> Option<Ran>
-    requires { All (G.serves gate.now) passes.old.items }
+    requires { All (G.serves gate.now) steering.old.passes.items }
     ensures went { Went IsLive result
         (known_with (W.known with.old) (K.known sink.old)) machine.old
         (known_with (W.known with.new) (K.known sink.new)) machine.new }
-    ensures passes { ArePassed (G.serves gate.now) G.tally result passes.old.items passes.new.items }
+    ensures passes { ArePassed (G.serves gate.now) G.tally result steering.old.passes.items steering.new.passes.items }
     ensures off { IsOff machine.old → result ≡ Some ran.Off }
     ensures unclosed { result ≢ Some ran.Closed }
-    ensures paced { IsMachineTurn G.tally pace.old.steps result pace.old.left pace.new.left
-        machine.old passes.old.items machine.new passes.new.items }
-    ensures steps { pace.new.steps ≡ pace.old.steps }
+    ensures paced { IsMachineTurn G.tally result steering.old machine.old steering.new machine.new }
+    ensures steps { steering.new.pace.steps ≡ steering.old.pace.steps }
 {
     if machine.is_off() {
         return Some(Ran::Off);
@@ -393,7 +389,7 @@ pub fn run_once<
         rest_long(with);
         return None;
     };
-    let end = run_world(rt, alloc, &mut world, with, gate, passes, pace, sink);
+    let end = run_world(rt, alloc, &mut world, with, gate, steering, sink);
     machine.put_guest(world);
     end
 }
@@ -411,8 +407,8 @@ pub fn end_of_closed(machine: &LiveMachine) -> Ran
     }
 }
 
-/// Turns of a machine, each by `run_once`, until the gate is closed, which is asked with the first pass before each. The first turn in
-/// which two harts have something to do is a slice.
+/// Turns of a machine, each by `run_once`, until the gate is closed, which is asked with the first pass before each. The pace goes on from
+/// the turns before: behind a new one the first turn in which two harts have something to do is a slice.
 /// `Closed` is answered where the guest is on, and `Off` where it is off.
 pub fn run_while<
     Q: Send + Drop,
@@ -426,26 +422,24 @@ pub fn run_while<
     machine: &mut LiveMachine,
     with: &mut W,
     gate: &G,
-    passes: &mut Vec<Q>,
-    steps: u32,
+    steering: &mut Steering<Q>,
     sink: &mut K,
 ) -> Ran
-    requires some { 0 < length passes.old.items }
-    requires serve { All (G.serves gate.now) passes.old.items }
+    requires some { 0 < length steering.old.passes.items }
+    requires serve { All (G.serves gate.now) steering.old.passes.items }
     ensures went { Went IsLive (Some result)
         (known_with (W.known with.old) (K.known sink.old)) machine.old
         (known_with (W.known with.new) (K.known sink.new)) machine.new }
     ensures off { IsOff machine.old → result ≡ ran.Off }
-    ensures passes { ArePassed (G.serves gate.now) G.tally (Some result) passes.old.items passes.new.items }
-    ensures paced { EndsPaced (G.serves gate.now) G.tally steps result
-        machine.old passes.old.items machine.new passes.new.items }
+    ensures passes { ArePassed (G.serves gate.now) G.tally (Some result) steering.old.passes.items steering.new.passes.items }
+    ensures paced { EndsPaced (G.serves gate.now) G.tally result steering.old machine.old steering.new machine.new }
+    ensures steps { steering.new.pace.steps ≡ steering.old.pace.steps }
 {
-    let mut pace = Pace::new(steps);
     for _ in rt.forever() {
-        if !is_open(gate, passes) {
+        if !is_open(gate, &mut steering.passes) {
             return end_of_closed(machine);
         }
-        if let Some(end) = run_once(rt, alloc, machine, with, gate, passes, &mut pace, sink) {
+        if let Some(end) = run_once(rt, alloc, machine, with, gate, steering, sink) {
             return end;
         }
     }

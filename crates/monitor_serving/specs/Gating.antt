@@ -12,7 +12,7 @@ pub record ArePasses (gate : TableId) (passes : List (TableId × Counts)) : Type
 -- all passes are of the gate that is beside them
 pub record IsGated (it : Gating) : Type 0 where
   pub reader : it.reader.0 ≡ it.gate
-  pub passes : ArePasses it.gate it.passes.items
+  pub passes : ArePasses it.gate it.steering.passes.items
 
 -- and it is the same gate, with as many steps
 pub record StaysGated (old new : Gating) : Type 0 where

@@ -46,9 +46,8 @@ fn run_in_threads<W: TurnObjects + Send, N: Conn, K: Sink + Send, R: Threads + W
     ensures opened { gating.new.reader.1.openings ≡ gating.old.reader.1.openings }
 {
     let gate = &gating.gate;
-    let passes = &mut gating.passes;
+    let steering = &mut gating.steering;
     let reader = &mut gating.reader;
-    let steps = gating.steps;
     let mut read = || -> Heard
         requires { reader.now.0 ≡ gate.now }
         ensures heard { Tells (N.known conn.entry.now).health →
@@ -70,15 +69,14 @@ fn run_in_threads<W: TurnObjects + Send, N: Conn, K: Sink + Send, R: Threads + W
     let also_rt = rt;
     let also_gate = gate;
     let mut run = || -> Ran
-        requires { ArePasses also_gate.now passes.now.items }
+        requires { ArePasses also_gate.now steering.now.passes.items }
         ensures went { Went IsLive (Some result)
             (known_with (W.known with.entry.now) (K.known sink.entry.now)) machine.entry.now
             (known_with (W.known with.exit.now) (K.known sink.exit.now)) machine.exit.now }
-        ensures passes { ArePasses also_gate.entry.now passes.exit.now.items }
+        ensures passes { ArePasses also_gate.entry.now steering.exit.now.passes.items }
     {
-        let ran = run_while(
-            also_rt, alloc, machine, with, also_gate, passes, steps, sink,
-        );
+        let ran = run_while(also_rt, alloc, machine, with, also_gate, steering, sink);
+        let passes = &mut steering.passes;
         also_gate.close(&mut passes[0]);
         ran
     };

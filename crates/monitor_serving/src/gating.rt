@@ -2,22 +2,21 @@
 ghost use Rattle.std.specs.Prelude.{◌≡◌, IfOk};
 ghost use Rattle.monitor_serving.specs.Gating.{IsGated};
 
-use monitor_running::Pace;
+use monitor_running::{Pace, Steering};
 use pause_gate::{FlagGate, Pass};
 use std::alloc::{AllocError, Global};
 
 /// A pass for each of 32 harts and the timer, one for who asks before each slice, and one for the reader.
 const PASSES: usize = 35;
 
-/// A gate with its passes: those of slices, and that of the reader, who closes it. In a slice each actor makes so many steps at most.
-/// The pace is that of turns that are made one by one, while nobody says anything.
+/// A gate, what steers the turns that ask it, and the pass of the reader, who closes it. In a slice each actor makes so many steps at most.
+/// The pace goes on, whoever makes the turns.
 #[derive(Drop)]
 pub struct Gating {
     pub gate: FlagGate,
-    pub passes: Vec<Pass>,
+    pub steering: Steering<Pass>,
     pub reader: Pass,
     pub steps: u32,
-    pub pace: Pace,
 }
 
 impl Gating {
@@ -30,12 +29,12 @@ impl Gating {
         let Some(reader) = passes.pop() else {
             unreachable!()
         };
+        let pace = Pace::new(steps);
         Ok(Gating {
             gate,
-            passes,
+            steering: Steering { passes, pace },
             reader,
             steps,
-            pace: Pace::new(steps),
         })
     }
 }

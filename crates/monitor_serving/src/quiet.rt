@@ -59,9 +59,8 @@ pub fn run_quiet<W: TurnObjects + Send, N: Conn, K: Sink + Send, R: Threads + Wa
     ensures opened { gating.new.reader.1.openings ≡ gating.old.reader.1.openings }
 {
     let gate = &gating.gate;
-    let passes = &mut gating.passes;
-    let pace = &mut gating.pace;
-    let end = run_once(rt, alloc, machine, with, gate, passes, pace, sink);
+    let steering = &mut gating.steering;
+    let end = run_once(rt, alloc, machine, with, gate, steering, sink);
     match end {
         Some(end) => (Heard::Nothing, end),
         None => {

@@ -86,9 +86,8 @@ fn run_alone<W: TurnObjects, K: Sink, R: Threads + Wait + Sync>(
     ensures gated { StaysGated gating.old gating.new }
 {
     let gate = &gating.gate;
-    let passes = &mut gating.passes;
-    let pace = &mut gating.pace;
-    alone_end(run_once(rt, alloc, monitor.machine(), with, gate, passes, pace, sink))
+    let steering = &mut gating.steering;
+    alone_end(run_once(rt, alloc, monitor.machine(), with, gate, steering, sink))
 }
 
 // A connection, where one has come, or a slice.

@@ -10,7 +10,7 @@ use crate::sessions::{no_link, no_vsock};
 use crate::showing::text_of;
 use crate::ticking::Ticks;
 use monitor_machine::LiveMachine;
-use monitor_running::{Ran, TracedHost, run_while};
+use monitor_running::{Pace, Ran, Steering, TracedHost, run_while};
 use outside_mem::{Failing, MemoryDisk, MemoryLink, MemorySink, MemoryVsock};
 use pause_gate::{FlagGate, Gate, HoldGate, Party, Pass};
 use std::alloc::{AllocError, Global};
@@ -131,10 +131,12 @@ pub fn print<R: Threads + Wait + Print + AllocGlobal + Sync>(rt: &R) -> io::Resu
 
 // How many items the trace took.
 fn print_row<R: Threads + Wait + Print + AllocGlobal + Sync>(rt: &R, row: &Row) -> io::Result<u64> {
-    let (flag, mut passes) = FlagGate::new(rt.alloc(), 3)?;
+    let (flag, passes) = FlagGate::new(rt.alloc(), 3)?;
+    let pace = Pace::new(64);
+    let mut steering = Steering { passes, pace };
     let gate = gate_of(flag, row);
     let mut running = running_of(rt.alloc(), row, &gate)?;
-    run_and_print(rt, row.name, &mut running, &gate, &mut passes)?;
+    run_and_print(rt, row.name, &mut running, &gate, &mut steering)?;
     Ok(running.turns.trace.taken())
 }
 
@@ -202,12 +204,12 @@ fn run_and_print<R: Threads + Wait + Print + AllocGlobal + Sync>(
     name: &str,
     running: &mut Running<'_>,
     gate: &HoldGate,
-    passes: &mut Vec<Pass>,
+    steering: &mut Steering<Pass>,
 ) -> io::Result<()>
-    requires some { 0 < length passes.old.items }
-    requires serve { All (λ pass. pass.0 ≡ gate.now.flag) passes.old.items }
+    requires some { 0 < length steering.old.passes.items }
+    requires serve { All (λ pass. pass.0 ≡ gate.now.flag) steering.old.passes.items }
 {
-    let end = run(rt, running, gate, passes);
+    let end = run(rt, running, gate, steering);
     println!(rt; "{name}: slices end => {end}")?;
     println!(rt; "{name}: the meeting => {:?}", gate.meeting())?;
     print_running(rt, name, running)?;
@@ -219,10 +221,10 @@ fn run<R: Threads + Wait + AllocGlobal + Sync>(
     rt: &R,
     running: &mut Running<'_>,
     gate: &HoldGate,
-    passes: &mut Vec<Pass>,
+    steering: &mut Steering<Pass>,
 ) -> &'static str
-    requires some { 0 < length passes.old.items }
-    requires serve { All (λ pass. pass.0 ≡ gate.now.flag) passes.old.items }
+    requires some { 0 < length steering.old.passes.items }
+    requires serve { All (λ pass. pass.0 ≡ gate.now.flag) steering.old.passes.items }
 {
     let ran = run_while(
         rt,
@@ -230,8 +232,7 @@ fn run<R: Threads + Wait + AllocGlobal + Sync>(
         &mut running.machine,
         &mut running.turns,
         gate,
-        passes,
-        64,
+        steering,
         &mut running.sink,
     );
     end_of(&ran)

@@ -7,3 +7,4 @@ pub mod Changes
 pub mod Numbers
 pub mod Statistics
 pub mod Texts
+pub mod Views

@@ -1,51 +1,14 @@
 // The texts that GET tells.
-ghost use Rattle.std.specs.Prelude.{◌≡◌, IfOk, string_bytes};
+ghost use Rattle.std.specs.Prelude.{◌≡◌, IfOk};
 ghost use Rattle.serde_json.specs.View.{view};
 ghost use Rattle.vm_config.specs.Texts as texts;
 
 use crate::config::{Config, Phase};
 use crate::statistics::{Statistics, statistics_value};
 use crate::values::{balloon, boot_source, drives, interfaces, machine, mmds, vsock};
-use api_calls::{Balloon, Part};
-use metadata_store::Store;
+use api_calls::Balloon;
 use serde_json::{Value, json};
 use std::alloc::{AllocError, Global};
-use vm_types::ByteList;
-
-impl Config {
-    /// A part as compact JSON with its keys in byte order, of the machine with this id in this phase, with these metadata and,
-    /// where a balloon runs, what that tells.
-    #[tactic(auto, using(crate::proofs::TextLemmas::config_whole, crate::proofs::TextLemmas::balloon_whole, crate::proofs::TextLemmas::statistics_whole))]
-    pub fn json(
-        &self,
-        alloc: Global,
-        part: Part,
-        id: &str,
-        phase: Phase,
-        metadata: &Store,
-        statistics: Option<Statistics>,
-    ) -> Result<ByteList, AllocError>
-        ensures { IfOk result (λ text. text ≡ texts.text_of part (record {
-          id = id.now;
-          phase = phase;
-          config = self.now;
-          metadata = metadata.now;
-          statistics = statistics;
-        })) }
-    {
-        let value = match part {
-            Part::Metadata => return metadata.get(),
-            Part::Instance => instance(alloc, id, phase)?,
-            Part::Version => version(alloc)?,
-            Part::MachineConfig => machine(alloc, &self.machine)?,
-            Part::VmConfig => vm_config(alloc, self)?,
-            Part::Balloon => balloon(alloc, &self.balloon)?,
-            Part::Statistics => told_statistics(alloc, &self.balloon, statistics)?,
-        };
-        let text = value.to_string(alloc)?;
-        Ok(ByteList::from_vec(text.into_bytes()))
-    }
-}
 
 fn phase_text(phase: Phase) -> &'static str
     ensures { result.now ≡ texts.phase_text phase }
@@ -57,7 +20,7 @@ fn phase_text(phase: Phase) -> &'static str
     }
 }
 
-fn instance(alloc: Global, id: &str, phase: Phase) -> Result<Value, AllocError>
+pub fn instance(alloc: Global, id: &str, phase: Phase) -> Result<Value, AllocError>
     ensures { IfOk result (λ v. view v ≡ texts.instance id.now phase) }
 {
     let state = phase_text(phase);
@@ -69,13 +32,13 @@ fn instance(alloc: Global, id: &str, phase: Phase) -> Result<Value, AllocError>
     })
 }
 
-fn version(alloc: Global) -> Result<Value, AllocError>
+pub fn version(alloc: Global) -> Result<Value, AllocError>
     ensures { IfOk result (λ v. view v ≡ texts.version) }
 {
     json!(in alloc; {"firecracker_version": "1.0-rv64"})
 }
 
-fn told_statistics(
+pub fn told_statistics(
     alloc: Global,
     balloon: &Option<Balloon>,
     statistics: Option<Statistics>,
@@ -91,7 +54,7 @@ fn told_statistics(
     statistics_value(alloc, balloon.amount_mib, &told)
 }
 
-fn vm_config(alloc: Global, config: &Config) -> Result<Value, AllocError>
+pub fn vm_config(alloc: Global, config: &Config) -> Result<Value, AllocError>
     ensures { IfOk result (λ v. view v ≡ texts.vm_config config.now) }
 {
     let source = boot_source(alloc, &config.boot_source)?;

@@ -20,7 +20,7 @@ use monitor_plans::{Plan, Restored, Task};
 use refusals::Refusal;
 use responses::{ResponseForm, write_response};
 use std::alloc::AllocError;
-use vm_config::{Drives, Interfaces};
+use vm_config::{Drives, Interfaces, MachineView};
 use vm_outside::Files;
 use vm_types::ByteList;
 use vm_world::World;
@@ -54,14 +54,14 @@ impl LiveMachine {
         ensures tells { TellsOwn self.now }
         ensures err { OnErr result (text.new ≡ text.old) }
     {
-        let answer = plan.answer(
-            self.alloc,
-            self.id.as_str(),
-            self.phase(),
-            self.config.get(),
-            &self.metadata,
-            self.statistics(),
-        )?;
+        let machine = MachineView {
+            id: self.id.as_str(),
+            phase: self.phase(),
+            config: self.config.get(),
+            metadata: &self.metadata,
+            statistics: self.statistics(),
+        };
+        let answer = plan.answer(self.alloc, &machine)?;
         let bytes = write_response(self.alloc, form, &answer, closes)?;
         text.append(bytes.as_slice())
     }

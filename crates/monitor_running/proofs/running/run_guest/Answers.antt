@@ -76,7 +76,7 @@ returns-in-Err-clause-paced g c = λ several none.
       serial = c.in-Ok.ensures.serial;
       stopped =
           subst (λ (n : ℕ). AreStopped g.G.Gate.tally n c.in-Ok.slice.events.items c.slice_by.new.world c.in-Ok.slice.stops.items
-          c.args.passes.now.items c.slice_by.new.passes.items) c.steps_each-each.ensures c.in-Ok.ensures.stops;
+          c.args.steering.now.passes.items c.slice_by.new.passes.items) c.steps_each-each.ensures c.in-Ok.ensures.stops;
       drained = c.in-Err.ensures.world;
     })
 
@@ -89,7 +89,7 @@ returns-clause-paced g c = λ several none.
       serial = c.in-Ok.ensures.serial;
       stopped =
           subst (λ (n : ℕ). AreStopped g.G.Gate.tally n c.in-Ok.slice.events.items c.slice_by.new.world c.in-Ok.slice.stops.items
-          c.args.passes.now.items c.slice_by.new.passes.items) c.steps_each-each.ensures c.in-Ok.ensures.stops;
+          c.args.steering.now.passes.items c.slice_by.new.passes.items) c.steps_each-each.ensures c.in-Ok.ensures.stops;
       drained = c.in_default-tell_slice.ensures.world;
     })
 

@@ -28,7 +28,7 @@ pub returns-then-not-has_passes-clause-paced : goal.returns-then-not-has_passes-
 returns-then-not-has_passes-clause-paced g c =
     Other (λ several.
     let enough = several.passes in
-    let k : false ≡ true = c.if-not-has_passes.ensures.1 (several.few, omega (arith, enough, c.len.ensures, c.args.passes.now.ok.0)) in cc) refl
+    let k : false ≡ true = c.if-not-has_passes.ensures.1 (several.few, omega (arith, enough, c.len.ensures, c.args.steering.now.passes.ok.0)) in cc) refl
 
 pub returns-then-all_wait-clause-paced : goal.returns-then-all_wait-clause-paced
 returns-then-all_wait-clause-paced g c = Other (λ several. several.some (c.if-all_wait.ensures.0 refl)) refl
@@ -42,7 +42,7 @@ returns-clause-paced g c =
     let enough = there.1 in
     c.run_several.ensures.paced (record {
       few = there.0;
-      passes = omega (arith, enough, c.len.ensures, c.args.passes.now.ok.0);
+      passes = omega (arith, enough, c.len.ensures, c.args.steering.now.passes.ok.0);
       some = λ idle. let k : false ≡ true = c.if-all_wait.ensures.1 idle in cc;
       more = λ k alone. c.in_default.ensures.none refl k alone;
     })

@@ -17,7 +17,7 @@ invariant-loop g l =
       went : Went IsLive None (known_with (W.known l.fn.with) (K.known l.fn.sink)) l.fn.machine
           (known_with (W.known l.with) (K.known l.sink)) l.machine;
       off : IsOff l.fn.machine → l.machine ≡ l.fn.machine;
-      passes : ArePassed (G.serves l.gate) G.tally None l.fn.passes.items l.passes.items;
-      steps : l.pace.steps ≡ l.steps;
-      paced : (n : ℕ) × ArePaced (G.serves l.gate) G.tally l.steps n l.fn.machine l.fn.passes.items l.pace.left l.machine l.passes.items;
+      passes : ArePassed (G.serves l.gate) G.tally None l.fn.steering.passes.items l.steering.passes.items;
+      steps : l.steering.pace.steps ≡ l.fn.steering.pace.steps;
+      paced : (n : ℕ) × ArePaced (G.serves l.gate) G.tally n l.fn.steering l.fn.machine l.steering l.machine;
     }

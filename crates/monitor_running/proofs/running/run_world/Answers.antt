@@ -1,7 +1,6 @@
-use Rattle.std.proofs.Common.{◌∙◌, ap, refl, subst, Some}
+use Rattle.std.proofs.Common.{◌∙◌, ap, refl, Some}
 use Rattle.monitor_running.proofs.Turns.{turn_behind, turn_by}
 use Rattle.monitor_running.specs.declared.pacing.Pace.{Pace}
-use Rattle.monitor_running.specs.Paced.{IsPaced}
 use Rattle.monitor_running.specs.Paced.IsWorldTurn.{Devices, Harts}
 use Rattle.monitor_running.proofs.running.run_world.Goals as goal
 
@@ -16,10 +15,10 @@ returns-in-Some-clause-paced g c = Devices (λ is. cc) (ap (λ (p : Pace). p.lef
 
 pub returns-clause-paced : goal.returns-clause-paced
 returns-clause-paced g c =
-    Harts c.act.new.world (c.in_default.ensures.acted refl)
-    (subst (λ (p : Pace). IsPaced g.G.Gate.tally p.steps c.run_or_wait.result p.left c.run_or_wait.new.pace.left
-    c.act.new.world c.args.passes.now.items c.run_or_wait.new.world c.run_or_wait.new.passes.items)
-    c.in_default.ensures.timed c.run_or_wait.ensures.paced)
+    let timed = c.in_default.ensures.timed in
+    Harts c.act.new.world (record c.args.steering.now { pace = c.act.new.pace }) (c.in_default.ensures.acted refl)
+    (record { passes = refl; steps = ap (λ (p : Pace). p.steps) timed; left = ap (λ (p : Pace). p.left) timed })
+    c.run_or_wait.ensures.paced
 
 pub returns-in-Some-clause-steps : goal.returns-in-Some-clause-steps
 returns-in-Some-clause-steps g c = ap (λ (p : Pace). p.steps) c.in-Some.ensures.timed
