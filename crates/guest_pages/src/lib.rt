@@ -5,7 +5,8 @@
 //! a block that is loaded into pages is put there, and what is copied out is read there. `law` has what holds of marks, and of room.
 //!
 //! A page that nobody wrote or reserved in isn't made: it takes no memory and reads as zeros. The set makes one from memory that was
-//! reserved before, so an act takes none. `specs/Made.antt` says what there has to be for an act, and for several.
+//! reserved before, so an act takes none. `specs/Made.antt` says what there has to be for an act, and for several. Pages can be taken out of
+//! the set as they are (`Slot`), with blanks for them (`Blank`), and put back.
 #![tactic(auto)]
 
 mod blank;
@@ -18,6 +19,8 @@ mod slot;
 mod word_bytes;
 mod zeros;
 
+pub use blank::Blank;
 pub use law::marks_follow_acts;
 pub use page::Page;
-pub use page_set::{CodePage, PageSet};
+pub use page_set::{CodePage, PageSet, mark_made};
+pub use slot::Slot;

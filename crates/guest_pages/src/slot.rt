@@ -12,7 +12,6 @@ use crate::zeros::zeros;
 use rv_rows::Width;
 use std::alloc::{AllocError, Global};
 use std::marker::Model;
-use std::mem::replace;
 use vm_types::{ActorId, GuestAddr, Op, Place, Reply};
 
 // A page that has something in it, or the number of one that has only zeros and takes no memory.
@@ -256,24 +255,8 @@ impl Slot {
         }
     }
 
-    /// Takes the page out, which is made, and leaves zeros that aren't.
-    pub fn take(&mut self) -> Page
-        requires { self.old.made ≡ true }
-        ensures page { result ≡ self.old }
-        ensures left { self.new ≡ new_page self.old.number }
-    {
-        let State::Made(page) = &self.state else {
-            unreachable!()
-        };
-        let number = page.number();
-        match replace(&mut self.state, State::Unmade(number)) {
-            State::Made(page) => page,
-            State::Unmade(_) => unreachable!(),
-        }
-    }
-
-    /// Puts a page there.
-    pub fn put(&mut self, page: Page)
+    // Puts a page there.
+    fn put(&mut self, page: Page)
         ensures page { self.new ≡ page }
         ensures made { self.new.made ≡ true }
     {

@@ -1,3 +1,4 @@
+pub mod Feeding
 pub mod Growing
 pub mod Indexing
 pub mod Named

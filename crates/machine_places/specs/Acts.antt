@@ -1,4 +1,5 @@
 -- An act on a place of a machine is one on the page, the port or the board that it is.
+use Rattle.std.specs.Prelude.{◌≡◌, true}
 use Rattle.vm_types.specs.declared.ids.ActorId.{ActorId}
 use Rattle.vm_types.specs.declared.op.Op.{Op}
 use Rattle.vm_types.specs.declared.reply.Reply.{Reply}
@@ -23,3 +24,9 @@ abbrev pub touch : MachinePlace → ActorId → Op → Reply × MachinePlace
 touch (Page p) actor op = on_page (page_touch p actor op)
 touch (Port p) actor op = on_port (port.touch p actor op)
 touch (Board b) actor op = on_board (board.touch b actor op)
+
+-- a page may not be made yet; a port and the board are
+abbrev pub IsMade : MachinePlace → Type 0
+IsMade (Page p) = p.made ≡ true
+IsMade (Port p) = Unit {0}
+IsMade (Board b) = Unit {0}

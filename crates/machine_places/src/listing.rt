@@ -9,14 +9,14 @@ ghost use Rattle.machine_places.specs.declared.place.MachinePlace.TheVariants as
 ghost use Rattle.machine_places.specs.Laid.{AreLaid, ArePlaces, board_in, id_of, ids_from, pages_in, place_of, ports_in};
 
 use crate::place::MachinePlace;
-use guest_pages::Page;
+use guest_pages::Slot;
 use line_board::Board;
 use mmio_port::Port;
 use turn_table::Held;
 use vm_types::PlaceId;
 
 // Pages by their numbers behind those that are there.
-fn place_pages(pages: Vec<Page>, places: &mut Vec<Held<MachinePlace>>)
+fn place_pages(pages: Vec<Slot>, places: &mut Vec<Held<MachinePlace>>)
     requires few { length pages.items ≤ 2 ^ 28 }
     requires room { vec_len places.old + length pages.items ≤ vec_capacity places.old }
     requires new { All IsNew places.old.items }
@@ -55,7 +55,7 @@ fn place_ports(ports: Vec<Port>, places: &mut Vec<Held<MachinePlace>>)
 
 /// The pages, the ports and the board in an empty list with room for them, each at its index; nobody acted on them yet.
 pub fn place_all(
-    pages: Vec<Page>,
+    pages: Vec<Slot>,
     ports: Vec<Port>,
     board: Board,
     places: &mut Vec<Held<MachinePlace>>,
@@ -74,7 +74,7 @@ pub fn place_all(
 // The pages and the ports of a list in their order, behind those that are there, and its last board, if it has one.
 fn take_each(
     places: Vec<Held<MachinePlace>>,
-    pages: &mut Vec<Page>,
+    pages: &mut Vec<Slot>,
     ports: &mut Vec<Port>,
 ) -> Option<Board>
     requires empty { (pages.old.items ≡ []) × (ports.old.items ≡ []) }
@@ -107,7 +107,7 @@ fn take_each(
 /// them. It takes no memory.
 pub fn take_all(
     places: Vec<Held<MachinePlace>>,
-    pages: &mut Vec<Page>,
+    pages: &mut Vec<Slot>,
     ports: &mut Vec<Port>,
 ) -> Board
     requires empty { (pages.old.items ≡ []) × (ports.old.items ≡ []) }

@@ -1,22 +1,25 @@
 // A place of a machine.
-use guest_pages::Page;
+use guest_pages::{Blank, Slot};
 use line_board::Board;
 use mmio_port::Port;
 use turn_table::Fed;
 use vm_types::{ActorId, Op, Place, Reply};
 
-/// A page, a port or the board. Each is made when the machine is.
+/// A page, a port or the board. A port and the board are made when the machine is, and a page when something is first left in it.
 #[derive(Drop)]
 pub enum MachinePlace {
-    Page(Page),
+    Page(Slot),
     Port(Port),
     Board(Board),
 }
 
-impl Place for MachinePlace {
-    ghost use Rattle.std.specs.Prelude.{false};
+#[tactic(auto, using(crate::proofs::Feeding::can_make, crate::proofs::Feeding::takes_one, crate::proofs::Feeding::took_makes, crate::proofs::Feeding::made_takes))]
+impl Fed for MachinePlace {
+    ghost use Rattle.std.specs.Prelude.{length};
     ghost use Rattle.machine_places.specs.declared.place.MachinePlace.{MachinePlace as PlaceValue};
-    ghost use Rattle.machine_places.specs.Acts.{touch};
+    ghost use Rattle.machine_places.specs.Acts.{IsMade, touch};
+
+    type Pool = Vec<Blank>;
 
     ghost Value = { PlaceValue };
 
@@ -24,27 +27,15 @@ impl Place for MachinePlace {
 
     ghost touch = { touch };
 
-    ghost serves = { λ _. false };
+    ghost made = { IsMade };
 
-    fn act(&mut self, actor: ActorId, op: &Op) -> Reply {
+    ghost blanks = { λ pool. length pool.items };
+
+    fn act_fed(&mut self, pool: &mut Vec<Blank>, actor: ActorId, op: &Op) -> Reply {
         match self {
-            MachinePlace::Page(page) => page.act(actor, op),
+            MachinePlace::Page(page) => page.act(pool, actor, op),
             MachinePlace::Port(port) => port.act(actor, op),
             MachinePlace::Board(board) => board.act(actor, op),
         }
-    }
-
-    ghost replies_fit = { λ v actor op never. absurd (Prim.cc never) };
-}
-
-impl Fed for MachinePlace {
-    type Pool = ();
-
-    ghost made = { λ _. Unit {0} };
-
-    ghost blanks = { λ _. 1 };
-
-    fn act_fed(&mut self, _pool: &mut (), actor: ActorId, op: &Op) -> Reply {
-        self.act(actor, op)
     }
 }

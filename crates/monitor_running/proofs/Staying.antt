@@ -5,7 +5,7 @@ use Rattle.flat_guest.specs.Guest.{Guest}
 use Rattle.flat_machine.specs.Machine.{Machine}
 use Rattle.flat_machine.specs.Ready.{IsReadyGuest, Ready}
 use Rattle.flat_machine.proofs.Ready.{event_ready, guest_ready}
-use Rattle.vm_world.specs.Worlds.{IsSameGuest, IsWorld, WorldValue}
+use Rattle.vm_world.specs.Worlds.{IsSameButSpare, IsWorld, WorldValue}
 use Rattle.vm_world.proofs.Events.{same_world}
 use Rattle.vm_host.specs.Telling.{ClockKnown}
 use Rattle.slice_runner.specs.Slices.{IsSerial, Leads, event_of}
@@ -79,8 +79,8 @@ stays_gone w v es asked now gone = stays_led w v (λ g is. let to = (gone g is).
 pub stays_run : (hart made : ℕ) (w v : WorldValue) → HasRun hart made w v → StaysReady w v
 stays_run hart made w v ran = stays_led w v (λ g is. let to = ran g is in (to.0, to.1, to.2, to.3))
 
--- other pages are made
-pub stays_made : (w v : WorldValue) → IsSameGuest w v → StaysReady w v
+-- other pages are spare
+pub stays_made : (w v : WorldValue) → IsSameButSpare w v → StaysReady w v
 stays_made w v same = stays_led w v (λ g is. ([], g, refl, same_world w v g same is))
 
 -- ---- the machine whose world ran

@@ -12,7 +12,7 @@ use Rattle.vm_host.specs.Telling.{ClockKnown}
 use Rattle.board_table.specs.Board.{Board}
 use Rattle.flat_guest.specs.Guest.{Guest}
 use Rattle.flat_machine.specs.Machine.{Machine, running}
-use Rattle.vm_world.specs.Worlds.{IsSameGuest, IsWorld, WorldValue}
+use Rattle.vm_world.specs.Worlds.{IsSameButSpare, IsWorld, WorldValue}
 use Rattle.vm_world.proofs.Events.{same_world}
 use Rattle.slice_runner.specs.Runs.{HasAnswered}
 use Rattle.slice_runner.specs.Slices.{ClockWasAsked, IsSerial, IsThere, Leads}
@@ -429,9 +429,9 @@ went_failed trace sink asked now w v devices world clock = record {
   sink_lasts = lasts_same sink.health;
 }
 
--- a slice that wasn't made, before which pages were
+-- a slice that wasn't made, before which pages were made spare
 pub went_unmade : (trace : TraceKnown) (sink : SinkKnown) (asked now : HostKnown) (w v : WorldValue) → now.devices ≡ asked.devices
-    → IsSameGuest w v → now.clock ≡ asked.clock
+    → IsSameButSpare w v → now.clock ≡ asked.clock
     → Went IsRunning (Some ran.OutOfMemory) (known trace sink asked) w (known trace sink now) v
 went_unmade trace sink asked now w v devices same clock = record {
   ran = λ t k s m talk is f r.

@@ -2,7 +2,7 @@
 ghost use Rattle.std.specs.Prelude.{◌≡◌, ◌≢◌, ◌⊎◌, ◌↔◌, ◌≤◌, ◌<◌, ◌+◌, true, length, All, IfOk, None, OnErr, Some};
 ghost use Rattle.vm_host.specs.Telling as clocks;
 ghost use Rattle.flat_guest.specs.Guest.{Guest};
-ghost use Rattle.vm_world.specs.Worlds.{IsSameGuest, IsWorld};
+ghost use Rattle.vm_world.specs.Worlds.{IsSameButSpare, IsWorld};
 ghost use Rattle.slice_runner.specs.Slices.{ClockWasAsked, IsSerial, IsThere};
 ghost use Rattle.slice_runner.specs.Stops.{AreStopped};
 ghost use Rattle.monitor_machine.specs.State.{IsLive};
@@ -83,10 +83,10 @@ fn slice_by<Q: Send + Drop, W: TurnObjects, G: Gate<Pass = Q> + Sync, R: Threads
     ensures serial { IfOk result (λ slice. IsSerial world.old slice.events.items world.new) }
     ensures actors { IfOk result (λ slice. All (λ e. IsThere (length world.old.harts) e.actor) slice.events.items) }
     ensures stops { IfOk result (λ slice.
-        AreStopped G.tally steps slice.events.items world.new slice.stops.items passes.old.items passes.new.items) }
+        AreStopped G.tally steps world.old slice.events.items world.new slice.stops.items passes.old.items passes.new.items) }
     ensures clock { IfOk result (λ slice.
         ClockWasAsked (W.known with.old).host.clock slice.events.items (W.known with.new).host.clock) }
-    ensures failed { OnErr result (IsSameGuest world.old world.new
+    ensures failed { OnErr result (IsSameButSpare world.old world.new
         × ((W.known with.new).host.clock ≡ (W.known with.old).host.clock) × (passes.new.items ≡ passes.old.items)) }
     ensures serve { All (G.serves gate.now) passes.new.items }
     ensures same { length passes.new.items ≡ length passes.old.items }

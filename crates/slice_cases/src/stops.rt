@@ -23,10 +23,17 @@ const ENDS: [u8; 28] = [
     0x73, 0x00, 0x00, 0x00, 0x73, 0x00, 0x50, 0x10, 0x6f, 0xf0, 0xdf, 0xff,
 ];
 
-/// How far a hart runs, and two slices: at a closed gate, and one in which the ring is filled.
+// Hart 0 writes to page after page, from page 0 on.
+const WRITES_TO_PAGES: [u8; 20] = [
+    0x97, 0x02, 0xe0, 0xff, 0x37, 0x13, 0x00, 0x00, 0x23, 0xa0, 0x52, 0x00, 0xb3, 0x82, 0x62, 0x00,
+    0x6f, 0xf0, 0x9f, 0xff,
+];
+
+/// How far a hart runs, and three slices: at a closed gate, one in which the ring is filled, and one in which blanks are used up.
 pub fn print<R: Threads + Wait + Print + AllocGlobal + Sync>(rt: &R) -> io::Result<()> {
     print_off(rt)?;
-    print_slices(rt)
+    print_slices(rt)?;
+    print_blanks(rt)
 }
 
 // Five instructions are fetched, and one of them is a call.
@@ -52,6 +59,36 @@ fn print_slices<R: Threads + Wait + Print + AllocGlobal + Sync>(rt: &R) -> io::R
     gate.open(&mut closer);
     print_slice(rt, "at an open one", &mut world, &gate, &mut passes)?;
     print_world(rt, &world)
+}
+
+// The image's page alone is made at first. An actor has 256 blanks.
+fn print_blanks<R: Threads + Wait + Print + AllocGlobal + Sync>(rt: &R) -> io::Result<()> {
+    let (gate, mut passes) = FlagGate::new(rt.alloc(), 3)?;
+    let Some(mut world) = two_harts(rt.alloc(), &WRITES_TO_PAGES) else {
+        return println!(rt; "no world");
+    };
+    println!(rt; "blanks: pages to make => {}", world.pages().unmade())?;
+    let stop = first_stop(rt, &mut world, &gate, &mut passes);
+    println!(rt; "blanks: the stop of hart 0 => {stop:?}")?;
+    let pages = world.pages();
+    println!(rt;
+        "blanks: pages to make and spare then => {} {}",
+        pages.unmade(),
+        pages.spare()
+    )
+}
+
+// That of hart 0 in a slice.
+fn first_stop<R: Threads + Wait + AllocGlobal + Sync>(
+    rt: &R,
+    world: &mut World,
+    gate: &FlagGate,
+    passes: &mut Vec<Pass>,
+) -> Option<Stop>
+    requires { All (λ pass. pass.0 ≡ gate.now) passes.old.items }
+{
+    let slice = slice_of(rt, world, gate, passes)?;
+    stop_of(&slice, 1)
 }
 
 fn print_slice<R: Threads + Wait + Print + AllocGlobal + Sync>(

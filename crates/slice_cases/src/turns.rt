@@ -7,6 +7,7 @@ ghost use Rattle.slice_cases.specs.Turners.{CanWork, HasWorked};
 
 use crate::meeting::party;
 use crate::worlds::two_drives;
+use guest_pages::Blank;
 use line_board::Board;
 use machine_places::{MachinePlace, place_all};
 use pause_gate::{FlagGate, Gate, HoldGate};
@@ -25,13 +26,14 @@ const ADD_ONE: Op = Op::Amo {
     wide: true,
 };
 
-/// A hart with the index of its place, its seat, and what it did, in room that was made before.
+/// A hart with the index of its place, its seat, its blanks, and what it did, in room that was made before.
 #[derive(Drop)]
 pub struct Turner {
     pub actor: ActorId,
     pub place: usize,
     pub seat: TurnSeat<MachinePlace>,
     pub journal: Vec<Entry>,
+    pub pool: Vec<Blank>,
 }
 
 /// A table between two rounds, and the seat with its three parts.
@@ -63,9 +65,7 @@ pub fn print<R: Threads + Wait + Print + AllocGlobal + Sync>(rt: &R) -> io::Resu
 fn table_of_places(alloc: Global) -> Option<Rested> {
     let mut world = two_drives(alloc, &[])?;
     let board = Board::new(alloc, 2).ok()?;
-    let list = Vec::with_capacity(alloc, world.pages().len()).ok()?;
-    world.make_pages(alloc).ok()?;
-    let parts = world.take(alloc, board, list);
+    let parts = world.take(alloc, board);
     let count = parts.pages.len() + parts.ports.len() + 1;
     let mut places = Vec::with_capacity(alloc, count).ok()?;
     place_all(parts.pages, parts.ports, parts.board, &mut places);
@@ -169,8 +169,9 @@ impl Rested {
             Vec::with_capacity(alloc, acts as usize)?,
             Vec::with_capacity(alloc, acts as usize)?,
         );
-        let one = hart_at(&turns, &mut seat, 0, places.0, room.0);
-        let other = hart_at(&turns, &mut seat, 1, places.1, room.1);
+        let pools = (two_blanks(alloc)?, two_blanks(alloc)?);
+        let one = hart_at(&turns, &mut seat, 0, places.0, (room.0, pools.0));
+        let other = hart_at(&turns, &mut seat, 1, places.1, (room.1, pools.1));
         let (one, other) = work_at_once(rt, gate, &turns, one, other, acts);
         turns.join(&mut seat, one.seat);
         turns.join(&mut seat, other.seat);
@@ -184,13 +185,22 @@ impl Rested {
     }
 }
 
-// A hart with one of the seat's parts.
+// Blanks for a page and one more.
+fn two_blanks(alloc: Global) -> Result<Vec<Blank>, AllocError> {
+    let mut pool = Vec::with_capacity(alloc, 2)?;
+    for _blank in 0..2 {
+        pool.push(Blank::new(alloc)?)?;
+    }
+    Ok(pool)
+}
+
+// A hart with one of the seat's parts, and with this room and these blanks.
 fn hart_at(
     turns: &Turns<MachinePlace>,
     seat: &mut TurnSeat<MachinePlace>,
     hart: u8,
     place: usize,
-    journal: Vec<Entry>,
+    room: (Vec<Entry>, Vec<Blank>),
 ) -> Turner
     requires seat { IsReady turns.now.table.shared.table_id turns.now.round seat.old }
     requires bare { (seat.old.me.0.entries ≡ []) × (1 < seat.old.me.0.parts) }
@@ -204,7 +214,8 @@ fn hart_at(
         actor: ActorId::Hart(hart),
         place,
         seat: turns.split(seat),
-        journal,
+        journal: room.0,
+        pool: room.1,
     }
 }
 
@@ -244,6 +255,9 @@ fn work<R: Wait, G: Gate>(
         if clock >= 1 << 63 || turner.journal.len() >= turner.journal.capacity() {
             break;
         }
+        if turner.pool.is_empty() {
+            break;
+        }
         let entry = turns.act_turn(
             rt,
             gate,
@@ -251,7 +265,7 @@ fn work<R: Wait, G: Gate>(
             turner.place,
             turner.actor,
             &mut clock,
-            &mut (),
+            &mut turner.pool,
             &ADD_ONE,
         );
         turner.journal.push_reserved(entry);

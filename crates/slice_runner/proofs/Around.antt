@@ -1,22 +1,25 @@
--- A slice of a world's parts is one of the world, whose pages were made before it.
+-- A slice of a world's parts is one of the world, of which some pages were made spare before it.
 use Rattle.std.proofs.Common.{◌≡◌, ℕ, All, Bool, List, length, sym, ap, ◌∙◌, subst}
 use Rattle.pause_gate.specs.Tally.{Tally}
 use Rattle.vm_types.specs.declared.entry.Entry.{Entry}
 use Rattle.guest_pages.specs.Marks.{AreMarks}
-use Rattle.guest_pages.specs.Pages.{marks_of, new_pages}
-use Rattle.guest_pages.proofs.Loading.{made_count}
+use Rattle.guest_pages.specs.Pages.{marks_of}
 use Rattle.vm_world.specs.declared.world.parting.WorldParts.{WorldParts}
-use Rattle.vm_world.specs.Worlds.{IsSameGuest, IsWorld, WorldValue}
+use Rattle.vm_world.specs.Worlds.{IsSameButSpare, IsWorld, WorldValue}
 use Rattle.vm_world.proofs.Events.{same_world}
 use Rattle.slice_runner.specs.declared.stop.Stopped.{Stopped}
 use Rattle.slice_runner.specs.Opened.{AreBackParts, world_of}
 use Rattle.slice_runner.specs.Slices.{IsSerial, IsThere, MarksFollow, written_by}
 use Rattle.slice_runner.specs.Stops.{AreStopped}
 
-module _ (old made : WorldValue) (p : WorldParts) (n : ℕ) (same : IsSameGuest old made) (taken : record (world_of p) { spare = n } ≡ made) where
+-- the parts were put back, and then blanks
+pub put_and_given : {w put back : WorldValue} {m : ℕ} → IsSameButSpare put back → put ≡ record w { spare = m } → back ≡ record w { spare = back.spare }
+put_and_given {back = back} given is = given ∙ ap (λ (v : WorldValue). record v { spare = back.spare }) is
+
+module _ (old made : WorldValue) (p : WorldParts) (n : ℕ) (same : IsSameButSpare old made) (taken : record (world_of p) { spare = n } ≡ made) where
   -- as many harts
   pub harts_around : length p.harts.items ≡ length old.harts
-  harts_around = ap (λ (w : WorldValue). length w.harts) taken ∙ ap (λ (w : WorldValue). length w.harts) same.rest
+  harts_around = ap (λ (w : WorldValue). length w.harts) taken ∙ ap (λ (w : WorldValue). length w.harts) same
 
   pub there_around : (es : List Entry) → All (λ (e : Entry). IsThere (length (world_of p).harts) e.actor) es
       → All (λ (e : Entry). IsThere (length old.harts) e.actor) es
@@ -32,37 +35,38 @@ module _ (old made : WorldValue) (p : WorldParts) (n : ℕ) (same : IsSameGuest 
 
     pub marks_around : (es : List Entry) → MarksFollow p.pages.items es q.pages.items → MarksFollow old.pages es back.pages
     marks_around es follow written are =
-        let before : marks_of p.pages.items ≡ marks_of old.pages = ap (λ (w : WorldValue). marks_of w.pages) taken ∙ same.marks in
+        let before : marks_of p.pages.items ≡ marks_of old.pages =
+        ap (λ (w : WorldValue). marks_of w.pages) taken ∙ ap (λ (w : WorldValue). marks_of w.pages) same in
         subst (λ (l : List Bool). AreMarks l (written_by written es)) (ap (λ (w : WorldValue). marks_of w.pages) (sym put))
         (follow written (subst (λ (l : List Bool). AreMarks l written) (sym before) are))
 
     pub devices_around : (world_of q).devices ≡ (world_of p).devices → back.devices ≡ old.devices
     devices_around kept =
         ap (λ (w : WorldValue). w.devices) put ∙ kept ∙ ap (λ (w : WorldValue). w.devices) taken
-        ∙ ap (λ (w : WorldValue). w.devices) same.rest
+        ∙ ap (λ (w : WorldValue). w.devices) same
 
-    pub back_around : AreBackParts p q → n ≡ m → IsSameGuest old back
-    back_around are spare =
-        let whole : back ≡ made =
-        put ∙ ap (λ (w : WorldValue). record w { spare = m }) are.world ∙ ap (λ (k : ℕ). record (world_of p) { spare = k }) (sym spare)
-        ∙ taken in
-        subst (λ (w : WorldValue). IsSameGuest old w) (sym whole) same
+    pub back_around : AreBackParts p q → IsSameButSpare old back
+    back_around are =
+        put ∙ ap (λ (w : WorldValue). record w { spare = m }) are.world ∙ ap (λ (w : WorldValue). record w { spare = m }) taken
+        ∙ ap (λ (w : WorldValue). record w { spare = m }) same ∙ ap (λ (k : ℕ). record old { spare = k }) (sym (ap (λ (w : WorldValue). w.spare) put))
 
-  -- and as many pages come back
-  pub all_around : (left : WorldValue) (q : WorldParts) → left.pages ≡ new_pages 0 (length made.pages)
-      → length q.pages.items ≡ length p.pages.items → length q.pages.items ≡ length left.pages
-  all_around left q is count =
-      count ∙ ap (λ (w : WorldValue). length w.pages) taken ∙ sym (made_count left.pages (length made.pages) is)
-
--- the stops say nothing of spare pages
-pub stopped_around : {Q : Type 0} (tally : Q → Tally) (steps : ℕ) (es : List Entry) (back : WorldValue) (q : WorldParts) (m : ℕ)
+-- the stops say nothing of spare pages, neither of those before nor of those behind
+pub stopped_around : {Q : Type 0} (tally : Q → Tally) (steps : ℕ) (old made : WorldValue) (p : WorldParts) (n : ℕ) → IsSameButSpare old made
+    → record (world_of p) { spare = n } ≡ made → (es : List Entry) (back : WorldValue) (q : WorldParts) (m : ℕ)
     (stops : List Stopped) (before after : List Q) → back ≡ record (world_of q) { spare = m }
-    → AreStopped tally steps es (world_of q) stops before after → AreStopped tally steps es back stops before after
-stopped_around tally steps es back q m stops before after put stopped =
-    subst (λ (w : WorldValue). AreStopped tally steps es w stops before after) (sym put)
-    (record {
+    → AreStopped tally steps (world_of p) es (world_of q) stops before after → AreStopped tally steps old es back stops before after
+stopped_around tally steps old made p n same taken es back q m stops before after put stopped =
+    let first : record (world_of p) { spare = 0 } ≡ record old { spare = 0 } = ap (λ (w : WorldValue). record w { spare = 0 }) (taken ∙ same) in
+    let begun = subst (λ (w : WorldValue). AreStopped tally steps w es (world_of q) stops before after) first (record {
       count = stopped.count;
       each = λ i s a b at first last.
           let one = stopped.each i s a b at first last in
+          record { actor_is = one.actor_is; want = one.want; wants = one.wants; cause = one.cause };
+    }) in
+    subst (λ (w : WorldValue). AreStopped tally steps old es w stops before after) (sym put)
+    (record {
+      count = begun.count;
+      each = λ i s a b at first last.
+          let one = begun.each i s a b at first last in
           record { actor_is = one.actor_is; want = one.want; wants = one.wants; cause = one.cause };
     })

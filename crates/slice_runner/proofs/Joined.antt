@@ -22,6 +22,7 @@ use Rattle.slice_runner.specs.Ends.{HartEnds, HartsWorked, IsReady, TimerEnds}
 use Rattle.slice_runner.specs.Runs.{Begins}
 use Rattle.slice_runner.specs.Seats.{IsSeatedIn}
 use Rattle.slice_runner.specs.Staff.{AreBack, AreSeated, AreStaffed, passes_of}
+use Rattle.slice_runner.proofs.Staff.{begins_own}
 use Rattle.slice_runner.specs.Stops.{timer_most}
 use Rattle.std.proofs.Math.Nat.{min-le_left}
 use Rattle.slice_runner.proofs.Crew.{harts_journals, journals_are}
@@ -39,27 +40,27 @@ pub long_map : {A B : Type 0} (f : A → B) (xs : List A) → length (map f xs) 
 long_map f [] = refl
 long_map f (x ∷ xs) = let e = long_map f xs in omega (arith, e)
 
-module _ {Q : Type 0} (serves : Q → Type 0) (places : Places) (round : Round MachinePlace) (n : ℕ) where
-  ready_by : (ws : List (HartWorker Q)) → AllByRecursion (λ (w : HartWorker Q). Begins n w.track) ws
+module _ {Q : Type 0} (serves : Q → Type 0) (places : Places) (round : Round MachinePlace) (n blanks : ℕ) where
+  ready_by : (ws : List (HartWorker Q)) → AllByRecursion (λ (w : HartWorker Q). Begins n blanks w.track) ws
       → AllByRecursion (λ (w : HartWorker Q). IsSeatedIn places round w.track.work) ws
       → AllByRecursion serves (passes_of ws) → AllByRecursion (λ (w : HartWorker Q). IsReady serves places n w.track) ws
   ready_by [] begin seated served = tt
   ready_by (w ∷ ws) begin seated served =
-      (record { pass = served.0; seat = seated.0.seat; begins = begin.0 }, ready_by ws begin.1 seated.1 served.1)
+      (record { pass = served.0; seat = seated.0.seat; begins = begins_own n blanks w.track begin.0 }, ready_by ws begin.1 seated.1 served.1)
 
-module _ {Q : Type 0} (serves : Q → Type 0) (places : Places) (round : Round MachinePlace) (n : ℕ) (t : Timer) (hs : List Hart) (passes : List Q)
-    (timer : TimerWorker Q) (ws : List (HartWorker Q)) (left : List Q) (staffed : AreStaffed n t hs passes timer ws left)
+module _ {Q : Type 0} (serves : Q → Type 0) (places : Places) (round : Round MachinePlace) (n blanks : ℕ) (t : Timer) (hs : List Hart) (passes : List Q)
+    (timer : TimerWorker Q) (ws : List (HartWorker Q)) (left : List Q) (staffed : AreStaffed n blanks t hs passes timer ws left)
     (seated : AreSeated places round timer ws) (served : All serves passes) where
   each : AllByRecursion serves (timer.track.pass ∷ (passes_of ws ++ left))
   each = subst (AllByRecursion serves) (sym staffed.passes_are) (recursion_from_All serves passes served)
 
   pub timer_ready : IsReady serves places n timer.track
-  timer_ready = record { pass = each.0; seat = seated.first.seat; begins = staffed.begins }
+  timer_ready = record { pass = each.0; seat = seated.first.seat; begins = begins_own n blanks timer.track staffed.begins }
 
   pub harts_ready : All (λ (w : HartWorker Q). IsReady serves places n w.track) ws
   harts_ready =
       All-from_recursion (λ (w : HartWorker Q). IsReady serves places n w.track) ws
-      (ready_by serves places round n ws (recursion_from_All (λ (w : HartWorker Q). Begins n w.track) ws staffed.begin)
+      (ready_by serves places round n blanks ws (recursion_from_All (λ (w : HartWorker Q). Begins n blanks w.track) ws staffed.begin)
       (recursion_from_All (λ (w : HartWorker Q). IsSeatedIn places round w.track.work) ws seated.each)
       (parts_of serves (passes_of ws) left each.1).0)
 

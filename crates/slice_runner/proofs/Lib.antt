@@ -1,9 +1,11 @@
 pub mod Around
 pub mod Answers
 pub mod Crew
+pub mod Feeding
 pub mod Joined
 pub mod Leading
 pub mod Opening
+pub mod Pools
 pub mod Routes
 pub mod Seats
 pub mod Shared

@@ -20,6 +20,7 @@ use Rattle.stamp_merge.proofs.Flat.{all_of-append}
 use Rattle.machine_places.specs.declared.place.MachinePlace.{MachinePlace}
 use Rattle.machine_places.specs.Laid.{index_among}
 use Rattle.slice_runner.specs.declared.places.Places.{Places}
+use Rattle.slice_runner.specs.Blanks.{AreMade}
 use Rattle.slice_runner.specs.Seats.{IsBare, IsSeated, IsSeatedIn, StaysSeated}
 
 module _ (places : Places) where
@@ -33,6 +34,7 @@ module _ (places : Places) where
     ready = ready;
     bare = ap (λ (v : View MachinePlace). v.entries) is ∙ h.bare;
     named = subst (AreNamed index) (sym (ap (λ (v : View MachinePlace). v.round) is)) h.named;
+    made = subst (AreMade places.layout places.made.items) (sym (ap (λ (v : View MachinePlace). v.round) is)) h.made;
   }
 
   -- a seat that noted nothing
@@ -52,6 +54,7 @@ module _ (places : Places) where
     seat = record {
       work = work;
       named = subst (AreNamed index) (sym noted.round_is) h.named;
+      made = subst (AreMade places.layout places.made.items) (sym noted.round_is) h.made;
       noted = subst (λ (es : List Entry). HasNoted w.seat.me.0.round index w.seat.me.0 es) (sym none)
           (subst (λ (r : Round MachinePlace). HasNoted r index w.seat.me.0 []) (sym noted.round_is) noted);
     };
@@ -66,6 +69,7 @@ module _ (places : Places) where
     seat = record {
       work = work;
       named = subst (AreNamed index) (sym noted.round_is) h.named;
+      made = subst (AreMade places.layout places.made.items) (sym noted.round_is) h.made;
       noted = subst (λ (r : Round MachinePlace). HasNoted r index after.seat.me.0 after.journal.items) (sym noted.round_is) noted;
     };
     round_is = noted.round_is;

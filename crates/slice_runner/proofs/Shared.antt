@@ -19,13 +19,15 @@ use Rattle.turn_work.specs.Work.{HasNoted}
 use Rattle.vm_host.specs.Telling.{ClockKnown}
 use Rattle.vm_world.specs.Worlds.{WorldValue, world_with}
 use Rattle.machine_places.specs.declared.place.MachinePlace.{MachinePlace}
-use Rattle.machine_places.specs.Acts.{touch}
+use Rattle.machine_places.specs.Acts.{IsMade, touch}
 use Rattle.machine_places.specs.Laid.{AreLaid, ArePlaces, index_among, place_of}
 use Rattle.slice_runner.specs.declared.places.Places.{Places}
 use Rattle.slice_runner.specs.declared.stop.Stopped.{Stopped}
 use Rattle.slice_runner.specs.declared.worker.HartWorker.{HartWorker}
 use Rattle.slice_runner.specs.declared.worker.TimerWorker.{TimerWorker}
 use Rattle.slice_runner.specs.Ends.{HartsWorked, TimerEnds}
+use Rattle.guest_pages.specs.Made.{made_of}
+use Rattle.slice_runner.specs.Blanks.{pool_of}
 use Rattle.slice_runner.specs.Slices.{IsSlice}
 use Rattle.slice_runner.specs.Staff.{AreBack, AreStaffed}
 use Rattle.slice_runner.specs.Stops.{timer_most}
@@ -34,7 +36,7 @@ use Rattle.slice_runner.proofs.Valued.{IsAgain, told_again}
 use Rattle.slice_runner.proofs.Whole.{whole}
 
 abbrev pub TellsAll : View MachinePlace → List (Held MachinePlace) → Type 0
-TellsAll v list = Told touch (λ (p : MachinePlace). p) (λ (p : MachinePlace). Unit {0}) v list
+TellsAll v list = Told touch (λ (p : MachinePlace). p) IsMade v list
 
 module _ (w : WorldValue) (r : Round MachinePlace) (v : View MachinePlace) (list : List (Held MachinePlace)) (laid : AreLaid w.pages w.ports w.board r.opens)
     (round_is : v.round ≡ r) (long : length list ≡ length v.round.opens) (told : TellsAll v list) where
@@ -47,8 +49,8 @@ module _ (w : WorldValue) (r : Round MachinePlace) (v : View MachinePlace) (list
   module _ {Q : Type 0} (serves : Q → Type 0) (tally : Q → Tally) (n : ℕ) (asked now : ClockKnown) (places : Places)
       (t u : TimerWorker Q) (ws vs : List (HartWorker Q)) (over passes later : List Q)
       (pages : List PageValue) (ports : List PortState) (b : Board) (harts : List Hart) (journals : List Journal) (stops : List Stopped) (events : List Entry)
-      (are : ArePages 0 w.pages) (layout_is : places.layout ≡ layout_in w)
-      (staffed : AreStaffed n w.timer w.harts passes t ws over) (timer_ends : TimerEnds serves tally places (timer_most n) asked now t u)
+      (are : ArePages 0 w.pages) (layout_is : places.layout ≡ layout_in w) (made_is : places.made.items ≡ made_of w.pages)
+      (staffed : AreStaffed n (pool_of n w.pages) w.timer w.harts passes t ws over) (timer_ends : TimerEnds serves tally places (timer_most n) asked now t u)
       (worked : HartsWorked serves tally places n ws vs) (back : AreBack u vs over harts later journals stops)
       (noted : HasNoted r (index_among places.layout) v (all_of (journals_of journals)))
       (home : (pages ≡ left.of_pages) × (ports ≡ left.of_ports) × (b ≡ left.of_board))
@@ -64,5 +66,5 @@ module _ (w : WorldValue) (r : Round MachinePlace) (v : View MachinePlace) (list
 
     pub done : IsSlice tally n asked now w events (world_with pages b ports u.timer harts w.devices) stops passes later
     done =
-        whole serves tally n asked now w places t u ws vs over passes later pages ports b harts journals stops events v list are layout_is staffed timer_ends worked back
+        whole serves tally n asked now w places t u ws vs over passes later pages ports b harts journals stops events v list are layout_is made_is staffed timer_ends worked back
         laid_now noted_now told kept (ap length home.0 ∙ left.pages_many) (ap length home.1 ∙ left.ports_many) order

@@ -4,6 +4,7 @@ use Rattle.std.specs.List.{AllByRecursion}
 use Rattle.std.proofs.lemmas.List.Elements.{All-append, All-from_recursion, recursion_from_All}
 use Rattle.vm_types.specs.declared.ids.ActorId.{ActorId}
 use Rattle.slice_runner.specs.declared.worker.HartWorker.{HartWorker}
+use Rattle.slice_runner.specs.declared.worker.Track.{Track}
 use Rattle.slice_runner.specs.Runs.{Begins}
 use Rattle.slice_runner.specs.Staff.{AreNumbered}
 
@@ -47,12 +48,20 @@ numbered_more ws now w n so_far long is items =
     let e : n ≡ 0 + length ws = omega (arith, long) in
     subst (λ l. AreNumbered 0 l) (sym items) (numbered_by 0 ws w so_far (is ∙ ap (λ (k : ℕ). ActorId.Hart k) e))
 
-pub begin_more : {Q : Type 0} (n : ℕ) (ws now : List (HartWorker Q)) (w : HartWorker Q)
-    → All (λ (v : HartWorker Q). Begins n v.track) ws → Begins n w.track → now ≡ ws ++ w ∷ []
-    → All (λ (v : HartWorker Q). Begins n v.track) now
-begin_more {Q} n ws now w so_far one items =
-    let P : HartWorker Q → Type 0 = λ v. Begins n v.track in
+pub begin_more : {Q : Type 0} (n blanks : ℕ) (ws now : List (HartWorker Q)) (w : HartWorker Q)
+    → All (λ (v : HartWorker Q). Begins n blanks v.track) ws → Begins n blanks w.track → now ≡ ws ++ w ∷ []
+    → All (λ (v : HartWorker Q). Begins n blanks v.track) now
+begin_more {Q} n blanks ws now w so_far one items =
+    let P : HartWorker Q → Type 0 = λ v. Begins n blanks v.track in
     subst (All P) (sym items) (All-append P ws (w ∷ []) so_far (All-from_recursion P (w ∷ []) (one, tt)))
+
+-- with as many blanks as its pool has
+pub begins_with : {Q : Type 0} (n blanks : ℕ) (track : Track Q) (own : ℕ) → own ≡ blanks → Begins n own track → Begins n blanks track
+begins_with n blanks track own is begins = subst (λ (k : ℕ). Begins n k track) is begins
+
+-- those that it has
+pub begins_own : {Q : Type 0} (n blanks : ℕ) (track : Track Q) → Begins n blanks track → Begins n (length track.pool.items) track
+begins_own n blanks track begins = record { empty = begins.empty; clock = begins.clock; full = begins.full; room = begins.room; pool = refl }
 
 pub none_left : {A : Type 0} (xs : List A) → length xs ≡ 0 → xs ≡ []
 none_left [] is = refl

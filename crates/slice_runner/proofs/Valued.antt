@@ -18,7 +18,7 @@ use Rattle.turn_table.specs.Steps.{Told}
 use Rattle.turn_law.specs.Rounds.{AreValues}
 use Rattle.machine_places.specs.declared.place.MachinePlace.{MachinePlace}
 use Rattle.machine_places.specs.declared.place.MachinePlace.TheVariants as holds
-use Rattle.machine_places.specs.Acts.{touch}
+use Rattle.machine_places.specs.Acts.{IsMade, touch}
 use Rattle.machine_places.specs.Laid.{ArePlaces, index_among, place_of}
 use Rattle.machine_places.proofs.Named.{get_map}
 use Rattle.slice_runner.specs.Values.{no_port, page_or_none, place_among, port_or_none}
@@ -169,7 +169,7 @@ kinds_of (x ∷ xs) (y ∷ ys) long same = (
   kinds_of xs ys (omega (arith, long)) (λ i a b at also. same (suc i) a b at also),
 )
 
-told_kinds : (v : View MachinePlace) (now : List (Held MachinePlace)) → Told touch (λ (p : MachinePlace). p) (λ (p : MachinePlace). Unit {0}) v now
+told_kinds : (v : View MachinePlace) (now : List (Held MachinePlace)) → Told touch (λ (p : MachinePlace). p) IsMade v now
     → (i : ℕ) (a b : Held MachinePlace) → get_elem? v.round.opens i ≡ some a → get_elem? now i ≡ some b → kind_of b.place ≡ kind_of a.place
 told_kinds v now told i a b at also =
     let t = told i (inside_of v.round.opens i a at) in
@@ -213,7 +213,7 @@ again (p ∷ ps) ms b (holds.Board c ∷ xs) same = absurd (omega (arith, same.0
 
 -- so has the list of places that the seat with all parts is told of
 pub told_again : (ps : List PageValue) (ms : List PortState) (b : Board) (v : View MachinePlace) (now : List (Held MachinePlace)) → ArePlaces ps ms b v.round.opens
-    → length now ≡ length v.round.opens → Told touch (λ (p : MachinePlace). p) (λ (p : MachinePlace). Unit {0}) v now
+    → length now ≡ length v.round.opens → Told touch (λ (p : MachinePlace). p) IsMade v now
     → IsAgain (length ps) (length ms) (map place_of now)
 told_again ps ms b v now were long told =
     again ps ms b (map place_of now)

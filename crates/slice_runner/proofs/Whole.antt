@@ -1,5 +1,6 @@
 -- A slice, from what its actors did and what the seat with all parts was told.
-use Rattle.std.proofs.Common.{◌≡◌, ℕ, zero, suc, ◌+◌, ◌<◌, refl, sym, ap, ◌∙◌, subst, arith}
+use Rattle.std.proofs.Common.{◌≡◌, ℕ, zero, suc, ◌+◌, ◌<◌, Bool, refl, sym, ap, ◌∙◌, subst, arith}
+use Rattle.std.specs.List.{AllByRecursion}
 use Rattle.std.proofs.Common.{All, List, [], ◌∷◌, ◌++◌, length, map, slice_get, slice_index_or, Some}
 use Rattle.std.specs.List.Sorted.{IsPermutation}
 use Rattle.std.proofs.lemmas.List.Elements.{All-from_recursion, recursion_from_All}
@@ -7,9 +8,11 @@ use Rattle.std.proofs.lemmas.List.Sorted.{All-permutation, IsPermutation-refl}
 use Rattle.vm_types.specs.declared.entry.Entry.{Entry}
 use Rattle.vm_types.specs.declared.ids.ActorId.{ActorId}
 use Rattle.vm_types.specs.declared.ids.PlaceId.{PlaceId}
+use Rattle.vm_types.specs.declared.op.Op.{Op}
 use Rattle.vm_types.specs.Ids.{of_actor}
 use Rattle.vm_types.specs.Serial.{OutFits}
 use Rattle.board_table.specs.Board.{Board}
+use Rattle.guest_pages.specs.Made.{made_of}
 use Rattle.guest_pages.specs.Flat.{ArePages}
 use Rattle.guest_pages.specs.Pages.{PageValue}
 use Rattle.hart_trace.specs.States.{Hart, hart_next, hart_wants}
@@ -32,17 +35,19 @@ use Rattle.turn_law.specs.Rounds.{AreNoted, AreValues, IsIndex, entry_of}
 use Rattle.turn_law.proofs.Histories.{history, legal, stamped}
 use Rattle.turn_work.specs.Work.{HasNoted}
 use Rattle.machine_places.specs.declared.place.MachinePlace.{MachinePlace}
-use Rattle.machine_places.specs.Acts.{touch as place_touch}
+use Rattle.machine_places.specs.Acts.{IsMade, touch as place_touch}
 use Rattle.machine_places.specs.Laid.{AreLaid, ArePlaces, index_among}
 use Rattle.machine_places.proofs.Indexing.{are_apart}
 use Rattle.vm_host.specs.Telling.{AreNext, ClockKnown}
 use Rattle.vm_world.specs.Worlds.{WorldValue, want_in, world_with}
 use Rattle.slice_runner.specs.declared.places.Places.{Places}
+use Rattle.slice_runner.specs.declared.stop.Stop.{Stop}
 use Rattle.slice_runner.specs.declared.stop.Stopped.{Stopped}
 use Rattle.slice_runner.specs.declared.worker.HartWorker.{HartWorker}
 use Rattle.slice_runner.specs.declared.worker.TimerWorker.{TimerWorker}
 use Rattle.slice_runner.specs.Ends.{HartEnds, HartsWorked, TimerEnds}
-use Rattle.slice_runner.specs.Runs.{HasRun}
+use Rattle.slice_runner.specs.Blanks.{pool_of}
+use Rattle.slice_runner.specs.Runs.{Begins, HasRun}
 use Rattle.slice_runner.specs.Slices.{IsSerial, IsSlice, IsThere, MarksFollow, answers_of}
 use Rattle.slice_runner.specs.Staff.{AreBack, AreNumbered, AreStaffed, harts_of, passes_of, stop_of, stops_from}
 use Rattle.slice_runner.specs.Stops.{HasCause, IsStopped, timer_most}
@@ -69,20 +74,21 @@ module _ {Q : Type 0} (serves : Q → Type 0) (tally : Q → Tally) (places : Pl
       )
 
   -- its stop, with its cause
-  pub record HartStop (k j : ℕ) (vs : List (HartWorker Q)) (s : Stopped) (p q : Q) : Type 0 where
+  pub record HartStop (blanks k j : ℕ) (vs : List (HartWorker Q)) (s : Stopped) (p q : Q) : Type 0 where
     pub worker : HartWorker Q
     pub is_there : slice_get vs j ≡ Some worker
     pub actor_is : s.actor ≡ ActorId.Hart (k + j)
-    pub cause : HasCause n s.stop worker.track.work.journal.items (hart_wants worker.hart) (tally p) (tally q)
+    pub cause : HasCause n blanks places.made.items places.layout s.stop worker.track.work.journal.items (hart_wants worker.hart) (tally p) (tally q)
 
-  stop_by : (left : List Q) (k : ℕ) (ws vs : List (HartWorker Q)) → length vs ≡ length ws → AreNumbered k ws
+  stop_by : (left : List Q) (blanks k : ℕ) (ws vs : List (HartWorker Q)) → length vs ≡ length ws → AreNumbered k ws
+      → AllByRecursion (λ (w : HartWorker Q). Begins n blanks w.track) ws
       → ((i : ℕ) (d : HartWorker Q) → i < length ws → HartEnds serves tally places n (slice_index_or ws i d) (slice_index_or vs i d))
       → (j : ℕ) (s : Stopped) (p q : Q) → slice_get (map (λ (v : HartWorker Q). stop_of v.track) vs) j ≡ Some s
-      → slice_get (passes_of ws ++ left) j ≡ Some p → slice_get (passes_of vs ++ left) j ≡ Some q → HartStop k j vs s p q
-  stop_by left k [] [] long ids each j s p q stop before after = cc
-  stop_by left k [] (v ∷ vs) long ids each j s p q stop before after = absurd (omega (arith, long))
-  stop_by left k (w ∷ ws) [] long ids each j s p q stop before after = absurd (omega (arith, long))
-  stop_by left k (w ∷ ws) (v ∷ vs) long ids each zero s p q stop before after =
+      → slice_get (passes_of ws ++ left) j ≡ Some p → slice_get (passes_of vs ++ left) j ≡ Some q → HartStop blanks k j vs s p q
+  stop_by left blanks k [] [] long ids begin each j s p q stop before after = cc
+  stop_by left blanks k [] (v ∷ vs) long ids begin each j s p q stop before after = absurd (omega (arith, long))
+  stop_by left blanks k (w ∷ ws) [] long ids begin each j s p q stop before after = absurd (omega (arith, long))
+  stop_by left blanks k (w ∷ ws) (v ∷ vs) long ids begin each zero s p q stop before after =
       let one : 0 < length (w ∷ ws) = omega arith in
       let first : HartEnds serves tally places n w v = each 0 w one in
       let s_is : stop_of v.track ≡ s = cc in
@@ -92,16 +98,25 @@ module _ {Q : Type 0} (serves : Q → Type 0) (tally : Q → Tally) (places : Pl
         worker = v;
         is_there = refl;
         actor_is = sym (ap (λ (x : Stopped). x.actor) s_is) ∙ first.worked.same ∙ ids.0 ∙ ap (λ (m : ℕ). ActorId.Hart m) e;
-        cause = subst (λ (x : Stopped). HasCause n x.stop v.track.work.journal.items (hart_wants v.hart) (tally p) (tally q)) s_is
-            (subst (λ (x : Q). HasCause n v.track.stop v.track.work.journal.items (hart_wants v.hart) (tally x) (tally q)) p_is
-            (subst (λ (x : Q). HasCause n v.track.stop v.track.work.journal.items (hart_wants v.hart) (tally w.track.pass) (tally x)) q_is first.worked.cause));
+        cause = subst (λ (x : Stopped). HasCause n blanks places.made.items places.layout x.stop v.track.work.journal.items (hart_wants v.hart) (tally p) (tally q)) s_is
+            (subst (λ (x : Q). HasCause n blanks places.made.items places.layout v.track.stop v.track.work.journal.items (hart_wants v.hart) (tally x) (tally q)) p_is
+            (subst (λ (x : Q). HasCause n blanks places.made.items places.layout v.track.stop v.track.work.journal.items (hart_wants v.hart) (tally w.track.pass) (tally x)) q_is
+            (subst (λ (x : ℕ). HasCause n x places.made.items places.layout v.track.stop v.track.work.journal.items (hart_wants v.hart) (tally w.track.pass) (tally v.track.pass))
+            begin.0.pool first.worked.cause)));
       }
-  stop_by left k (w ∷ ws) (v ∷ vs) long ids each (suc j) s p q stop before after =
-      let rest : HartStop (suc k) j vs s p q =
-      stop_by left (suc k) ws vs (omega (arith, long)) ids.1
+  stop_by left blanks k (w ∷ ws) (v ∷ vs) long ids begin each (suc j) s p q stop before after =
+      let rest : HartStop blanks (suc k) j vs s p q =
+      stop_by left blanks (suc k) ws vs (omega (arith, long)) ids.1 begin.1
       (λ i d below. let more : suc i < length (w ∷ ws) = omega (arith, below) in each (suc i) d more) j s p q stop before after in
       let e : suc k + j ≡ k + suc j = omega arith in
       record { worker = rest.worker; is_there = rest.is_there; actor_is = rest.actor_is ∙ ap (λ (m : ℕ). ActorId.Hart m) e; cause = rest.cause }
+
+-- where the same pages were made among the same places
+same_cause : (n : ℕ) {blanks : ℕ} {made other : List Bool} {layout size : Layout} {stop : Stop} {es : List Entry} {want : Op} {before now : Tally}
+    → made ≡ other → layout ≡ size → HasCause n blanks made layout stop es want before now → HasCause n blanks other size stop es want before now
+same_cause n {blanks} {made} {other} {layout} {size} {stop} {es} {want} {before} {now} made_is layout_is cause =
+    subst (λ (m : List Bool). HasCause n blanks m size stop es want before now) made_is
+    (subst (λ (l : Layout). HasCause n blanks made l stop es want before now) layout_is cause)
 
 get_map : {A B : Type 0} (f : A → B) (xs : List A) (j : ℕ) (x : A) → slice_get xs j ≡ Some x → slice_get (map f xs) j ≡ Some (f x)
 get_map f [] j x is = cc
@@ -115,11 +130,11 @@ length_map f (x ∷ xs) = let e = length_map f xs in omega (arith, e)
 module _ {Q : Type 0} (serves : Q → Type 0) (tally : Q → Tally) (n : ℕ) (asked now : ClockKnown) (old : WorldValue) (places : Places)
     (t u : TimerWorker Q) (ws vs : List (HartWorker Q)) (left passes later : List Q)
     (pages : List PageValue) (ports : List PortState) (b : Board) (harts : List Hart) (journals : List Journal) (stops : List Stopped) (events : List Entry)
-    (v : View MachinePlace) (list : List (Held MachinePlace)) (are : ArePages 0 old.pages) (layout_is : places.layout ≡ layout_in old)
-    (staffed : AreStaffed n old.timer old.harts passes t ws left) (timer_ends : TimerEnds serves tally places (timer_most n) asked now t u)
+    (v : View MachinePlace) (list : List (Held MachinePlace)) (are : ArePages 0 old.pages) (layout_is : places.layout ≡ layout_in old) (made_is : places.made.items ≡ made_of old.pages)
+    (staffed : AreStaffed n (pool_of n old.pages) old.timer old.harts passes t ws left) (timer_ends : TimerEnds serves tally places (timer_most n) asked now t u)
     (worked : HartsWorked serves tally places n ws vs) (back : AreBack u vs left harts later journals stops)
     (laid : AreLaid old.pages old.ports old.board v.round.opens) (noted : HasNoted v.round (index_among places.layout) v (all_of (journals_of journals)))
-    (told : Told place_touch (λ (p : MachinePlace). p) (λ (p : MachinePlace). Unit {0}) v list)
+    (told : Told place_touch (λ (p : MachinePlace). p) IsMade v list)
     (home : ArePlaces pages ports b list) (pages_count : length pages ≡ length old.pages) (ports_count : length ports ≡ length old.ports)
     (order : IsOrder (all_of (journals_of journals)) events) where
   abbrev size : Layout
@@ -180,8 +195,8 @@ module _ {Q : Type 0} (serves : Q → Type 0) (tally : Q → Tally) (n : ℕ) (a
   run : IsRun place_touch actor_wants actor_next (route_among size) OutFits (places_of old) (places_of new) (actors_of old) (actors_of new) events
   run =
       legal_run place_touch actor_wants actor_next (route_among size) OutFits (places_of old) (places_of new) (actors_of old) (actors_of new) js
-      (history place_touch (λ (p : MachinePlace). p) (λ (p : MachinePlace). Unit {0}) (index_among size) js v list is_index are_noted told) events
-      (legal place_touch (λ (p : MachinePlace). p) (λ (p : MachinePlace). Unit {0}) (index_among size) js v list is_index are_noted told
+      (history place_touch (λ (p : MachinePlace). p) IsMade (index_among size) js v list is_index are_noted told) events
+      (legal place_touch (λ (p : MachinePlace). p) IsMade (index_among size) js v list is_index are_noted told
       actor_wants actor_next (route_among size) (places_of old) (places_of new) (actors_of old) (actors_of new) followed values)
       ordered
 
@@ -223,7 +238,7 @@ module _ {Q : Type 0} (serves : Q → Type 0) (tally : Q → Tally) (n : ℕ) (a
 
   stopped : (i : ℕ) (s : Stopped) (p q : Q) → slice_get (stops_from u vs) i ≡ Some s
       → slice_get (t.track.pass ∷ (passes_of ws ++ left)) i ≡ Some p → slice_get (u.track.pass ∷ (passes_of vs ++ left)) i ≡ Some q
-      → IsStopped tally n events new i s p q
+      → IsStopped tally n old events new i s p q
   stopped zero s p q stop before after =
       let s_is : stop_of u.track ≡ s = cc in
       let p_is : t.track.pass ≡ p = cc in
@@ -233,12 +248,16 @@ module _ {Q : Type 0} (serves : Q → Type 0) (tally : Q → Tally) (n : ℕ) (a
         want = timer_wants u.timer;
         wants = ap (λ (a : ActorId). want_in new a) actor;
         cause = rw (ap (λ (a : ActorId). of_actor a events) actor ∙ timers)
-            (subst (λ (x : Stopped). HasCause (timer_most n) x.stop u.track.work.journal.items (timer_wants u.timer) (tally p) (tally q)) s_is
-            (subst (λ (x : Q). HasCause (timer_most n) u.track.stop u.track.work.journal.items (timer_wants u.timer) (tally x) (tally q)) p_is
-            (subst (λ (x : Q). HasCause (timer_most n) u.track.stop u.track.work.journal.items (timer_wants u.timer) (tally t.track.pass) (tally x)) q_is timer_ends.worked.cause)));
+            (subst (λ (x : Stopped). HasCause (timer_most n) (pool_of n old.pages) (made_of old.pages) (layout_in old) x.stop u.track.work.journal.items (timer_wants u.timer) (tally p) (tally q)) s_is
+            (subst (λ (x : Q). HasCause (timer_most n) (pool_of n old.pages) (made_of old.pages) (layout_in old) u.track.stop u.track.work.journal.items (timer_wants u.timer) (tally x) (tally q)) p_is
+            (subst (λ (x : Q). HasCause (timer_most n) (pool_of n old.pages) (made_of old.pages) (layout_in old) u.track.stop u.track.work.journal.items (timer_wants u.timer) (tally t.track.pass) (tally x)) q_is
+            (same_cause (timer_most n) made_is layout_is
+            (subst (λ (x : ℕ). HasCause (timer_most n) x places.made.items places.layout u.track.stop u.track.work.journal.items (timer_wants u.timer) (tally t.track.pass) (tally u.track.pass))
+            staffed.begins.pool timer_ends.worked.cause)))));
       }
   stopped (suc j) s p q stop before after =
-      let h = stop_by serves tally places n left 0 ws vs worked.same staffed.numbered worked.each j s p q stop before after in
+      let h = stop_by serves tally places n left (pool_of n old.pages) 0 ws vs worked.same staffed.numbered
+      (recursion_from_All (λ (w : HartWorker Q). Begins n (pool_of n old.pages) w.track) ws staffed.begin) worked.each j s p q stop before after in
       let e : 0 + j ≡ j = omega arith in
       let actor : s.actor ≡ ActorId.Hart j = h.actor_is ∙ ap (λ (k : ℕ). ActorId.Hart k) e in record {
         actor_is = actor;
@@ -246,7 +265,7 @@ module _ {Q : Type 0} (serves : Q → Type 0) (tally : Q → Tally) (n : ℕ) (a
         wants = ap (λ (a : ActorId). want_in new a) actor
             ∙ ap (λ (l : List Hart). want_of (slice_get l j)) back.harts_are
             ∙ ap want_of (get_map (λ (v : HartWorker Q). v.hart) vs j h.worker h.is_there);
-        cause = rw (ap (λ (a : ActorId). of_actor a events) actor ∙ harts_own j h.worker h.is_there) h.cause;
+        cause = rw (ap (λ (a : ActorId). of_actor a events) actor ∙ harts_own j h.worker h.is_there) (same_cause n made_is layout_is h.cause);
       }
 
   pub whole : IsSlice tally n asked now old events new stops passes later
@@ -254,7 +273,7 @@ module _ {Q : Type 0} (serves : Q → Type 0) (tally : Q → Tally) (n : ℕ) (a
     serial = subst (λ (w : WorldValue). IsSerial old events w) arrived reached.serial;
     there = all_there;
     stamps =
-        stamped place_touch (λ (p : MachinePlace). p) (λ (p : MachinePlace). Unit {0}) (index_among size) js v list is_index are_noted told events
+        stamped place_touch (λ (p : MachinePlace). p) IsMade (index_among size) js v list is_index are_noted told events
         (are_stamped size old.timer old.harts u vs first ran crew) ordered;
     marks = subst (λ (w : WorldValue). MarksFollow old.pages events w.pages) arrived reached.marks;
     stopped = record {

@@ -21,6 +21,7 @@ use Rattle.machine_places.specs.declared.place.MachinePlace.{MachinePlace}
 use Rattle.slice_runner.specs.declared.stop.Stop.{Stop}
 use Rattle.slice_runner.specs.declared.worker.Track.{Track}
 use Rattle.slice_runner.specs.Runs.{GoesOn, HasEnded, HasRun, IsActOf, IsSameBut, IsUnderWay, StopsFor, WritesDown}
+use Rattle.slice_runner.specs.Blanks.{was_made}
 use Rattle.slice_runner.specs.Stops.{IsUnfull, closings, is_last_full}
 use Rattle.slice_runner.specs.Values.{route_among}
 use Rattle.stamp_merge.proofs.Stamps.{Stamped-more}
@@ -46,8 +47,8 @@ unfull_more : (b : Bool) (es : List Entry) (e : Entry) → IsUnfull b es → is_
 unfull_more b [] e h last = (last, tt)
 unfull_more b (d ∷ es) e h last = (h.0, unfull_more (is_full d.reply) es e h.1 last)
 
-module _ {S Q : Type 0} (want : S → Op) (next : S → Reply → S) (tally : Q → Tally) (layout : Layout) (id : ActorId) (s : S)
-    (c : Tally) (t : S) (old mid : Track Q) (op : Op) (way : IsUnderWay want next tally layout id s c t old)
+module _ {S Q : Type 0} (want : S → Op) (next : S → Reply → S) (tally : Q → Tally) (layout : Layout) (made : List Bool) (id : ActorId) (s : S)
+    (c : Tally) (blanks : ℕ) (t : S) (old mid : Track Q) (op : Op) (way : IsUnderWay want next tally layout id s c blanks t old)
     (same : IsSameBut old mid) (is_want : op ≡ want t) where
   mid_actor : mid.work.actor ≡ id
   mid_actor = ap (λ (w : Worker MachinePlace). w.actor) same.work ∙ way.same
@@ -58,6 +59,12 @@ module _ {S Q : Type 0} (want : S → Op) (next : S → Reply → S) (tally : Q 
   mid_clock : mid.work.clock ≡ old.work.clock
   mid_clock = ap (λ (w : Worker MachinePlace). w.clock) same.work
 
+  mid_long : length mid.work.journal.items ≡ length old.work.journal.items
+  mid_long = ap (λ (xs : List Entry). length xs) mid_items
+
+  mid_pool : length mid.pool.items ≡ length old.pool.items
+  mid_pool = λ i. length (same.pool i).items
+
   mid_unfull : IsUnfull false mid.work.journal.items
   mid_unfull = rw mid_items way.unfull
 
@@ -65,9 +72,9 @@ module _ {S Q : Type 0} (want : S → Op) (next : S → Reply → S) (tally : Q 
   mid_run = rw (mid_items, mid_clock) way.ran
 
   -- one more entry
-  pub went : (new : Track Q) (e : Entry) (given : Given) (u : S) → GoesOn tally op old mid
+  pub went : (new : Track Q) (e : Entry) (given : Given) (u : S) → GoesOn tally layout made op old mid
       → IsActOf e mid.work.actor op given layout mid.work.clock → WritesDown e mid new → u ≡ next t e.reply
-      → IsUnderWay want next tally layout id s c u new
+      → IsUnderWay want next tally layout id s c blanks u new
   went new e given u on act down is =
       let run = mid_run in
       let more : length new.work.journal.items ≡ length mid.work.journal.items + 1 =
@@ -90,11 +97,12 @@ module _ {S Q : Type 0} (want : S → Op) (next : S → Reply → S) (tally : Q 
         asked = ap (λ (q : Q). (tally q).asks) down.pass ∙ on.asked ∙ ap (λ (k : ℕ). k + 1) way.asked
             ∙ omega (arith, more, ap (λ (xs : List Entry). length xs) mid_items);
         unclosed = ap (λ (q : Q). (tally q).closed) down.pass ∙ on.unclosed ∙ way.unclosed;
+        pool = omega (arith, way.pool, mid_pool, mid_long, down.pool, more);
       }
 
   -- a stop
-  pub ended : (n : ℕ) (stop : Stop) → StopsFor tally op old mid stop → length old.work.journal.items < n
-      → HasEnded want next tally layout id s c n t mid stop
+  pub ended : (n : ℕ) (stop : Stop) → StopsFor tally layout made op old mid stop → length old.work.journal.items < n
+      → HasEnded want next tally layout made id s c n blanks t mid stop
   ended n stop why less =
       let few : length mid.work.journal.items < n = subst (λ (xs : List Entry). length xs < n) (sym mid_items) less in
       record {
@@ -118,6 +126,11 @@ module _ {S Q : Type 0} (want : S → Op) (next : S → Reply → S) (tally : Q 
           full = λ is. ap (is_last_full false) mid_items ∙ sym way.full_is ∙ why.full is;
           unfull = mid_unfull;
           stamp = λ is. subst (λ (k : ℕ). 2 ^ 63 ≤ k) (sym mid_clock ∙ mid_run.last) (why.stamp is);
+          lacks = λ is.
+              let none = (why.lacks is).0 in (
+                omega (arith, way.pool, none, mid_long),
+                ap (λ (o : Op). was_made made layout o) (sym is_want) ∙ (why.lacks is).1,
+              );
         };
       }
 

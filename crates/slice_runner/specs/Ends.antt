@@ -14,20 +14,20 @@ use Rattle.slice_runner.specs.Slices.{answers_of}
 pub record IsReady {Q : Type 0} (serves : Q → Type 0) (places : Places) (n : ℕ) (track : Track Q) : Type 0 where
   pub pass : serves track.pass
   pub seat : IsSeated places track.work
-  pub begins : Begins n track
+  pub begins : Begins n (length track.pool.items) track
 
 -- and ends it
 pub record HartEnds {Q : Type 0} (serves : Q → Type 0) (tally : Q → Tally) (places : Places) (n : ℕ) (before after : HartWorker Q) :
     Type 0 where
   pub pass : serves after.track.pass
   pub seat : StaysSeated places before.track.work after.track.work
-  pub worked : HartWorked tally places.layout n before after
+  pub worked : HartWorked tally places.layout places.made.items n before after
 
 pub record TimerEnds {Q : Type 0} (serves : Q → Type 0) (tally : Q → Tally) (places : Places) (n : ℕ) (asked now : ClockKnown)
     (before after : TimerWorker Q) : Type 0 where
   pub pass : serves after.track.pass
   pub seat : StaysSeated places before.track.work after.track.work
-  pub worked : TimerWorked tally places.layout n before after
+  pub worked : TimerWorked tally places.layout places.made.items n before after
   pub answers : HasAnswered asked (answers_of after.track.work.journal.items) now
 
 -- each hart of the list does

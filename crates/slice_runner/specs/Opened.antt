@@ -4,6 +4,7 @@ use Rattle.vm_world.specs.declared.world.parting.WorldParts.{WorldParts}
 use Rattle.vm_world.specs.Worlds.{WorldValue, world_with}
 use Rattle.machine_places.specs.Laid.{AreLaid}
 use Rattle.slice_runner.specs.declared.sharing.Opened.{Opened}
+use Rattle.guest_pages.specs.Made.{made_of}
 use Rattle.slice_runner.specs.Seats.{IsBare}
 use Rattle.slice_runner.specs.Values.{layout_in}
 
@@ -18,6 +19,7 @@ pub record IsOpened (w : WorldValue) (opened : Opened) : Type 0 where
   pub all : opened.seat.me.0.parts ≡ opened.places.turns.table.shared.key.parts
   pub parts : opened.seat.me.0.parts ≡ length opened.harts.items + 2
   pub layout : opened.places.layout ≡ layout_in w
+  pub made : opened.places.made.items ≡ made_of w.pages
   pub laid : AreLaid w.pages w.ports w.board opened.seat.me.0.round.opens
   pub timer : opened.timer ≡ w.timer
   pub harts : opened.harts.items ≡ w.harts

@@ -14,15 +14,19 @@ pub record ForPlaces (pages ports : ℕ) (room : PlaceRoom) : Type 0 where
   pub for_pages : pages ≤ vec_capacity room.pages
   pub no_ports : room.ports.items ≡ []
   pub for_ports : ports ≤ vec_capacity room.ports
+  pub no_made : room.made.items ≡ []
+  pub for_made : pages ≤ vec_capacity room.made
 
--- with room for so many harts and passes, and an empty journal for each actor
-pub record ForWork {Q : Type 0} (harts passes : ℕ) (room : WorkRoom Q) : Type 0 where
+-- with room for so many harts and passes, an empty journal for each actor, and a pool of so many blanks for each
+pub record ForWork {Q : Type 0} (harts passes blanks : ℕ) (room : WorkRoom Q) : Type 0 where
   pub no_workers : room.workers.items ≡ []
   pub for_workers : harts ≤ vec_capacity room.workers
   pub none_left : room.left.items ≡ []
   pub for_left : passes ≤ vec_capacity room.left
   pub blank : length room.blank.items ≡ harts + 1
   pub are_blank : All (λ journal. journal.items ≡ []) room.blank.items
+  pub pools : length room.pools.items ≡ harts + 1
+  pub filled : All (λ pool. length pool.items ≡ blanks) room.pools.items
 
 -- with room for so many harts and what they and the timer did
 pub record ForHome (harts : ℕ) (room : HomeRoom) : Type 0 where
@@ -32,10 +36,12 @@ pub record ForHome (harts : ℕ) (room : HomeRoom) : Type 0 where
   pub for_journals : harts + 1 ≤ vec_capacity room.journals
   pub no_stops : room.stops.items ≡ []
   pub for_stops : harts + 1 ≤ vec_capacity room.stops
+  pub no_pools : room.pools.items ≡ []
+  pub for_pools : harts + 1 ≤ vec_capacity room.pools
 
 -- so many steps of each actor have room in its journal, and all of them in the list of events
-pub record ForCrew {Q : Type 0} (harts passes n : ℕ) (room : CrewRoom Q) : Type 0 where
-  pub work : ForWork harts passes room.work
+pub record ForCrew {Q : Type 0} (harts passes n blanks : ℕ) (room : CrewRoom Q) : Type 0 where
+  pub work : ForWork harts passes blanks room.work
   pub entries : All (λ journal. n ≤ vec_capacity journal) room.work.blank.items
   pub no_passes : room.passes.items ≡ []
   pub for_passes : passes ≤ vec_capacity room.passes
@@ -43,6 +49,13 @@ pub record ForCrew {Q : Type 0} (harts passes n : ℕ) (room : CrewRoom Q) : Typ
   pub no_events : room.events.items ≡ []
   pub for_events : (harts + 1) * n ≤ vec_capacity room.events
 
-pub record HasRoom {Q : Type 0} (pages ports harts passes n : ℕ) (room : Room Q) : Type 0 where
+pub record HasRoom {Q : Type 0} (pages ports harts passes n blanks : ℕ) (room : Room Q) : Type 0 where
   pub places : ForPlaces pages ports room.places
-  pub crew : ForCrew harts passes n room.crew
+  pub crew : ForCrew harts passes n blanks room.crew
+
+-- one actor more came home, and no room is gone
+pub record GrowsByOne (old new : HomeRoom) : Type 0 where
+  pub pools : length new.pools.items ≡ length old.pools.items + 1
+  pub for_pools : vec_capacity new.pools ≡ vec_capacity old.pools
+  pub for_journals : vec_capacity new.journals ≡ vec_capacity old.journals
+  pub for_stops : vec_capacity new.stops ≡ vec_capacity old.stops

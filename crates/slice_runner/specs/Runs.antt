@@ -1,6 +1,6 @@
 -- What an actor does in a slice.
 use Rattle.std.specs.Prelude.{ℕ, ◌≡◌, ◌+◌, ◌<◌, ◌≤◌, ◌^◌, ◌↔◌, true, false, max, List, [], ◌∷◌, ◌++◌, length}
-use Rattle.std.specs.Prelude.{Option, Some, None, vec_capacity}
+use Rattle.std.specs.Prelude.{Bool, Option, Some, None, vec_capacity}
 use Rattle.std.specs.List.{AllByRecursion}
 use Rattle.vm_types.specs.declared.entry.Entry.{Entry}
 use Rattle.vm_types.specs.declared.ids.ActorId.{ActorId}
@@ -23,6 +23,7 @@ use Rattle.slice_runner.specs.declared.stop.Stop.{Stop}
 use Rattle.slice_runner.specs.declared.worker.HartWorker.{HartWorker}
 use Rattle.slice_runner.specs.declared.worker.TimerWorker.{TimerWorker}
 use Rattle.slice_runner.specs.declared.worker.Track.{Track}
+use Rattle.slice_runner.specs.Blanks.{CanAct, was_made}
 use Rattle.slice_runner.specs.Stops.{HasCause, IsUnfull, closings, is_last_full}
 use Rattle.slice_runner.specs.Values.{route_among}
 
@@ -46,65 +47,70 @@ pub record HasRun {S : Type 0} (want : S → Op) (next : S → Reply → S) (lay
   pub placed : Placed (route_among layout) OutFits journal
   pub out : AllByRecursion OutIsZero journal
 
--- nothing was done yet, and there is room for so many entries
-pub record Begins {Q : Type 0} (n : ℕ) (track : Track Q) : Type 0 where
+-- nothing was done yet, and there is room for so many entries, and so many blanks
+pub record Begins {Q : Type 0} (n blanks : ℕ) (track : Track Q) : Type 0 where
   pub empty : track.work.journal.items ≡ []
   pub clock : track.work.clock ≡ 0
   pub full : track.full ≡ false
   pub room : n ≤ vec_capacity track.work.journal
+  pub pool : length track.pool.items ≡ blanks
 
 -- the actor came from the state s to the state t; since it had the tally c, its pass asked once for each entry, and was
--- never answered "closed"
+-- never answered "closed"; of its blanks it took one for an entry at most
 pub record IsUnderWay {S Q : Type 0} (want : S → Op) (next : S → Reply → S) (tally : Q → Tally) (layout : Layout)
-    (id : ActorId) (s : S) (c : Tally) (t : S) (track : Track Q) : Type 0 where
+    (id : ActorId) (s : S) (c : Tally) (blanks : ℕ) (t : S) (track : Track Q) : Type 0 where
   pub same : track.work.actor ≡ id
   pub ran : HasRun want next layout id s track.work.journal.items t track.work.clock
   pub full_is : track.full ≡ is_last_full false track.work.journal.items
   pub unfull : IsUnfull false track.work.journal.items
   pub asked : (tally track.pass).asks ≡ c.asks + length track.work.journal.items
   pub unclosed : (tally track.pass).closed ≡ c.closed
+  pub pool : blanks ≤ length track.pool.items + length track.work.journal.items
 
 -- the actor came from the state s to the state t, and stopped for a cause
-pub record HasEnded {S Q : Type 0} (want : S → Op) (next : S → Reply → S) (tally : Q → Tally) (layout : Layout) (id : ActorId)
-    (s : S) (c : Tally) (n : ℕ) (t : S) (track : Track Q) (stop : Stop) : Type 0 where
+pub record HasEnded {S Q : Type 0} (want : S → Op) (next : S → Reply → S) (tally : Q → Tally) (layout : Layout) (made : List Bool) (id : ActorId)
+    (s : S) (c : Tally) (n blanks : ℕ) (t : S) (track : Track Q) (stop : Stop) : Type 0 where
   pub same : track.work.actor ≡ id
   pub ran : HasRun want next layout id s track.work.journal.items t track.work.clock
-  pub cause : HasCause n stop track.work.journal.items (want t) c (tally track.pass)
+  pub cause : HasCause n blanks made layout stop track.work.journal.items (want t) c (tally track.pass)
 
-abbrev pub HasWorked : {S Q : Type 0} → (S → Op) → (S → Reply → S) → (Q → Tally) → Layout → ℕ → S → S → Track Q → Track Q
+abbrev pub HasWorked : {S Q : Type 0} → (S → Op) → (S → Reply → S) → (Q → Tally) → Layout → List Bool → ℕ → S → S → Track Q → Track Q
     → Type 0
-HasWorked want next tally layout n s t before after =
-    HasEnded want next tally layout before.work.actor s (tally before.pass) n t after after.stop
+HasWorked want next tally layout made n s t before after =
+    HasEnded want next tally layout made before.work.actor s (tally before.pass) n (length before.pool.items) t after after.stop
 
-abbrev pub HartWorked : {Q : Type 0} → (Q → Tally) → Layout → ℕ → HartWorker Q → HartWorker Q → Type 0
-HartWorked tally layout n before after =
-    HasWorked hart_wants hart_next tally layout n before.hart after.hart before.track after.track
+abbrev pub HartWorked : {Q : Type 0} → (Q → Tally) → Layout → List Bool → ℕ → HartWorker Q → HartWorker Q → Type 0
+HartWorked tally layout made n before after =
+    HasWorked hart_wants hart_next tally layout made n before.hart after.hart before.track after.track
 
-abbrev pub TimerWorked : {Q : Type 0} → (Q → Tally) → Layout → ℕ → TimerWorker Q → TimerWorker Q → Type 0
-TimerWorked tally layout n before after =
-    HasWorked timer_wants timer_next tally layout n before.timer after.timer before.track after.track
+abbrev pub TimerWorked : {Q : Type 0} → (Q → Tally) → Layout → List Bool → ℕ → TimerWorker Q → TimerWorker Q → Type 0
+TimerWorked tally layout made n before after =
+    HasWorked timer_wants timer_next tally layout made n before.timer after.timer before.track after.track
 
 -- nothing but the pass may have changed
 pub record IsSameBut {Q : Type 0} (old new : Track Q) : Type 0 where
   pub full : new.full ≡ old.full
   pub work : new.work ≡ old.work
+  pub pool : new.pool ≡ old.pool
 
 -- why it makes no further step, with this want
-pub record StopsFor {Q : Type 0} (tally : Q → Tally) (want : Op) (old new : Track Q) (stop : Stop) : Type 0 where
+pub record StopsFor {Q : Type 0} (tally : Q → Tally) (layout : Layout) (made : List Bool) (want : Op) (old new : Track Q) (stop : Stop) : Type 0 where
   pub not_steps : stop ≡ Stop.Steps → ⊥
   pub asked : (tally new.pass).asks ≡ (tally old.pass).asks + closings stop
   pub gate : (tally new.pass).closed ≡ (tally old.pass).closed + closings stop
   pub idle : (stop ≡ Stop.Idle) ↔ ((1 ≤ length old.work.journal.items) × (want ≡ Op.Idle))
   pub full : stop ≡ Stop.Full → old.full ≡ true
   pub stamp : stop ≡ Stop.Stamp → 2 ^ 63 ≤ old.work.clock
+  pub lacks : stop ≡ Stop.Blanks → (length old.pool.items ≡ 0) × (was_made made layout want ≡ false)
 
 -- or it makes one
-pub record GoesOn {Q : Type 0} (tally : Q → Tally) (want : Op) (old new : Track Q) : Type 0 where
+pub record GoesOn {Q : Type 0} (tally : Q → Tally) (layout : Layout) (made : List Bool) (want : Op) (old new : Track Q) : Type 0 where
   pub asked : (tally new.pass).asks ≡ (tally old.pass).asks + 1
   pub unclosed : (tally new.pass).closed ≡ (tally old.pass).closed
   pub awake : 1 ≤ length old.work.journal.items → want ≡ Op.Idle → ⊥
   pub unfull : old.full ≡ false
   pub low : old.work.clock < 2 ^ 63
+  pub fed : CanAct made layout want (length old.pool.items)
 
 -- the entry is written down, and is the actor's last
 pub record WritesDown {Q : Type 0} (e : Entry) (old new : Track Q) : Type 0 where
@@ -114,6 +120,7 @@ pub record WritesDown {Q : Type 0} (e : Entry) (old new : Track Q) : Type 0 wher
   pub full : new.full ≡ is_full e.reply
   pub items : new.work.journal.items ≡ old.work.journal.items ++ e ∷ []
   pub room : vec_capacity new.work.journal ≡ vec_capacity old.work.journal
+  pub pool : length old.pool.items ≤ length new.pool.items + 1
 
 -- a clock answered an op that asks it; nothing else asks it
 abbrev pub IsAsked : Op → ClockKnown → Option Reply → ClockKnown → Type 0

@@ -9,19 +9,23 @@ use Rattle.turn_work.specs.declared.worker.Worker.{Worker}
 use Rattle.turn_work.specs.Work.{AreNamed, HasNoted, IsAtWork}
 use Rattle.machine_places.specs.declared.place.MachinePlace.{MachinePlace}
 use Rattle.machine_places.specs.Laid.{index_among}
+use Rattle.slice_runner.specs.Blanks.{AreMade}
 use Rattle.slice_runner.specs.declared.places.Places.{Places}
 
--- the seat may act at these places, each of which is at its index, and nothing was done with it in this round
+-- the seat may act at these places, each of which is at its index and made where it is marked so, and nothing was done with
+-- it in this round
 pub record IsBare (places : Places) (seat : Seat (Held MachinePlace) (View MachinePlace)) : Type 0 where
   pub ready : IsReady places.turns.table.shared.table_id places.turns.round seat
   pub bare : seat.me.0.entries ≡ []
   pub named : AreNamed (index_among places.layout) seat.me.0.round
+  pub made : AreMade places.layout places.made.items seat.me.0.round
 
--- the actor's seat may act at these places, each of which is at its index, and has noted just those entries of its journal that have
--- a place
+-- the actor's seat may act at these places, each of which is at its index and made where it is marked so, and has noted just those
+-- entries of its journal that have a place
 pub record IsSeated (places : Places) (w : Worker MachinePlace) : Type 0 where
   pub work : IsAtWork places.turns.table.shared.table_id places.turns.round w
   pub named : AreNamed (index_among places.layout) w.seat.me.0.round
+  pub made : AreMade places.layout places.made.items w.seat.me.0.round
   pub noted : HasNoted w.seat.me.0.round (index_among places.layout) w.seat.me.0 w.journal.items
 
 -- in this round

@@ -79,7 +79,7 @@ pub record IsSlice {Q : Type 0} (tally : Q → Tally) (n : ℕ) (asked now : Clo
   pub there : All (λ (e : Entry). IsThere (length old.harts) e.actor) events
   pub stamps : AreStamps events
   pub marks : MarksFollow old.pages events new.pages
-  pub stopped : AreStopped tally n events new stops before after
+  pub stopped : AreStopped tally n old events new stops before after
   pub clock : ClockWasAsked asked events now
   pub pages : ArePages 0 new.pages
   pub count : length new.pages ≡ length old.pages

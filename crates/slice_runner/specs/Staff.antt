@@ -26,15 +26,15 @@ AreNumbered k [] = Unit {0}
 AreNumbered k (w ∷ ws) = (w.track.work.actor ≡ ActorId.Hart k) × AreNumbered (suc k) ws
 
 -- the timer and the harts are at work, each with the pass at its place, and these passes are left
-pub record AreStaffed {Q : Type 0} (n : ℕ) (t : Timer) (harts : List Hart) (passes : List Q) (timer : TimerWorker Q)
+pub record AreStaffed {Q : Type 0} (n blanks : ℕ) (t : Timer) (harts : List Hart) (passes : List Q) (timer : TimerWorker Q)
     (workers : List (HartWorker Q)) (left : List Q) : Type 0 where
   pub timer_is : timer.timer ≡ t
   pub harts_are : harts_of workers ≡ harts
   pub passes_are : timer.track.pass ∷ (passes_of workers ++ left) ≡ passes
   pub first : timer.track.work.actor ≡ ActorId.Timer
   pub numbered : AreNumbered 0 workers
-  pub begins : Begins n timer.track
-  pub begin : All (λ (w : HartWorker Q). Begins n w.track) workers
+  pub begins : Begins n blanks timer.track
+  pub begin : All (λ (w : HartWorker Q). Begins n blanks w.track) workers
 
 -- each has a seat in this round of these places
 pub record AreSeated {Q : Type 0} (places : Places) (round : Round MachinePlace) (timer : TimerWorker Q) (workers : List (HartWorker Q)) :

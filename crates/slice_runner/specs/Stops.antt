@@ -6,12 +6,16 @@ use Rattle.vm_types.specs.declared.ids.ActorId.{ActorId}
 use Rattle.vm_types.specs.declared.op.Op.{Op}
 use Rattle.vm_types.specs.Histories.{last_stamp}
 use Rattle.vm_types.specs.Ids.{of_actor}
+use Rattle.guest_pages.specs.Made.{made_of}
 use Rattle.hart_trace.specs.Traces.{is_full}
 use Rattle.pause_gate.specs.Tally.{Tally}
+use Rattle.stamp_merge.specs.declared.layout.Layout.{Layout}
 use Rattle.vm_world.specs.Worlds.{WorldValue, want_in}
 use Rattle.slice_runner.specs.declared.stop.Stop.{Stop}
-use Rattle.slice_runner.specs.declared.stop.Stop.TheVariants.{Steps, Gate, Idle, Full, Stamp}
+use Rattle.slice_runner.specs.declared.stop.Stop.TheVariants.{Steps, Gate, Idle, Full, Stamp, Blanks}
 use Rattle.slice_runner.specs.declared.stop.Stopped.{Stopped}
+use Rattle.slice_runner.specs.Blanks.{pool_of, was_made}
+use Rattle.slice_runner.specs.Values.{layout_in}
 
 -- the last reply is that the console ring was full
 abbrev pub is_last_full : Bool → List Entry → Bool
@@ -32,9 +36,9 @@ closings stop = 0
 abbrev pub Waits : ℕ → List Entry → Op → Type 0
 Waits n entries want = (1 ≤ length entries) × (length entries < n) × (want ≡ Op.Idle)
 
--- the cause of a stop, after these entries of at most n, with this want, and with the tally of its pass before and now: it
--- asked once for each entry, and once where the gate was closed
-pub record HasCause (n : ℕ) (stop : Stop) (entries : List Entry) (want : Op) (before now : Tally) : Type 0 where
+-- the cause of a stop, after these entries of at most n, with so many blanks at first, these pages made among so many, with this
+-- want, and with the tally of its pass before and now: it asked once for each entry, and once where the gate was closed
+pub record HasCause (n blanks : ℕ) (made : List Bool) (layout : Layout) (stop : Stop) (entries : List Entry) (want : Op) (before now : Tally) : Type 0 where
   pub most : length entries ≤ n
   pub steps : (stop ≡ Steps) ↔ (length entries ≡ n)
   pub asked : now.asks ≡ before.asks + (length entries + closings stop)
@@ -43,6 +47,7 @@ pub record HasCause (n : ℕ) (stop : Stop) (entries : List Entry) (want : Op) (
   pub full : stop ≡ Full → is_last_full false entries ≡ true
   pub unfull : IsUnfull false entries
   pub stamp : stop ≡ Stamp → 2 ^ 63 ≤ last_stamp 0 entries
+  pub lacks : stop ≡ Blanks → (blanks ≤ length entries) × (was_made made layout want ≡ false)
 
 -- the timer comes first, and then the harts by their numbers
 abbrev pub actor_of : ℕ → ActorId
@@ -59,16 +64,17 @@ most_of zero n = timer_most n
 most_of (suc k) n = n
 
 -- one actor's stop, with the pass at its place before and after
-pub record IsStopped {Q : Type 0} (tally : Q → Tally) (n : ℕ) (events : List Entry) (now : WorldValue) (i : ℕ)
+pub record IsStopped {Q : Type 0} (tally : Q → Tally) (n : ℕ) (old : WorldValue) (events : List Entry) (now : WorldValue) (i : ℕ)
     (s : Stopped) (p q : Q) : Type 0 where
   pub actor_is : s.actor ≡ actor_of i
   pub want : Op
   pub wants : want_in now s.actor ≡ Some want
-  pub cause : HasCause (most_of i n) s.stop (of_actor s.actor events) want (tally p) (tally q)
+  pub cause :
+      HasCause (most_of i n) (pool_of n old.pages) (made_of old.pages) (layout_in old) s.stop (of_actor s.actor events) want (tally p) (tally q)
 
 -- each actor has one stop, with its cause
-pub record AreStopped {Q : Type 0} (tally : Q → Tally) (n : ℕ) (events : List Entry) (now : WorldValue)
+pub record AreStopped {Q : Type 0} (tally : Q → Tally) (n : ℕ) (old : WorldValue) (events : List Entry) (now : WorldValue)
     (stops : List Stopped) (before after : List Q) : Type 0 where
   pub count : length stops ≡ suc (length now.harts)
   pub each : (i : ℕ) (s : Stopped) (p q : Q) → slice_get stops i ≡ Some s → slice_get before i ≡ Some p
-      → slice_get after i ≡ Some q → IsStopped tally n events now i s p q
+      → slice_get after i ≡ Some q → IsStopped tally n old events now i s p q

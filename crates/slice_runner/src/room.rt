@@ -4,37 +4,40 @@ ghost use Rattle.slice_runner.specs.Room.{HasRoom, ForCrew, ForHome, ForPlaces, 
 
 use crate::stop::Stopped;
 use crate::worker::HartWorker;
-use guest_pages::Page;
+use guest_pages::{Blank, Slot};
 use hart_rv64::Hart;
 use machine_places::MachinePlace;
 use mmio_port::Port;
-use stamp_merge::Journal;
+use stamp_merge::{Journal, Layout};
 use std::alloc::{AllocError, Global};
 use turn_table::Held;
 use vm_types::Entry;
 
-/// Empty lists for places that go into a table, and for pages and ports that come back.
+/// Empty lists for places that go into a table, for marks of the pages that are made, and for pages and ports that come back.
 #[derive(Drop)]
 pub struct PlaceRoom {
     pub places: Vec<Held<MachinePlace>>,
-    pub pages: Vec<Page>,
+    pub made: Vec<bool>,
+    pub pages: Vec<Slot>,
     pub ports: Vec<Port>,
 }
 
-/// Empty lists for harts that go to work and for passes that are left, and an empty journal for each actor.
+/// Empty lists for harts that go to work and for passes that are left, and an empty journal and a pool of blanks for each actor.
 #[derive(Drop)]
 pub struct WorkRoom<Q> {
     pub workers: Vec<HartWorker<Q>>,
     pub left: Vec<Q>,
     pub blank: Vec<Vec<Entry>>,
+    pub pools: Vec<Vec<Blank>>,
 }
 
-/// Empty lists for harts that come back with the journals and the stops of all actors.
+/// Empty lists for harts that come back with the journals, the stops and the blanks of all actors.
 #[derive(Drop)]
 pub struct HomeRoom {
     pub harts: Vec<Hart>,
     pub journals: Vec<Journal>,
     pub stops: Vec<Stopped>,
+    pub pools: Vec<Vec<Blank>>,
 }
 
 /// Room for what the actors of a slice move and write down: as they go to work and come home, and for all events.
@@ -73,10 +76,12 @@ impl PlaceRoom {
         ensures { IfOk result (λ room. ForPlaces pages ports room) }
     {
         let places = Vec::with_capacity(alloc, pages + (ports + 1))?;
+        let made = Vec::with_capacity(alloc, pages)?;
         let pages_home = Vec::with_capacity(alloc, pages)?;
         let ports_home = Vec::with_capacity(alloc, ports)?;
         Ok(PlaceRoom {
             places,
+            made,
             pages: pages_home,
             ports: ports_home,
         })
@@ -84,9 +89,17 @@ impl PlaceRoom {
 }
 
 impl<Q: Drop> WorkRoom<Q> {
-    fn new(alloc: Global, harts: usize, passes: usize, n: usize) -> Result<WorkRoom<Q>, AllocError>
+    fn new(
+        alloc: Global,
+        harts: usize,
+        passes: usize,
+        n: usize,
+        pools: Vec<Vec<Blank>>,
+    ) -> Result<WorkRoom<Q>, AllocError>
         requires { harts ≤ 32 }
-        ensures room { IfOk result (λ room. ForWork harts passes room) }
+        requires pools { length pools.items ≡ harts + 1 }
+        ensures room { (blanks : ℕ) → All (λ pool. length pool.items ≡ blanks) pools.items →
+            IfOk result (λ room. ForWork harts passes blanks room) }
         ensures entries { IfOk result (λ room. All (λ journal. n ≤ vec_capacity journal) room.blank.items) }
     {
         let workers = Vec::with_capacity(alloc, harts)?;
@@ -96,6 +109,7 @@ impl<Q: Drop> WorkRoom<Q> {
             workers,
             left,
             blank,
+            pools,
         })
     }
 }
@@ -108,20 +122,30 @@ impl HomeRoom {
         let harts_home = Vec::with_capacity(alloc, harts)?;
         let journals = Vec::with_capacity(alloc, harts + 1)?;
         let stops = Vec::with_capacity(alloc, harts + 1)?;
+        let pools = Vec::with_capacity(alloc, harts + 1)?;
         Ok(HomeRoom {
             harts: harts_home,
             journals,
             stops,
+            pools,
         })
     }
 }
 
 impl<Q: Drop> CrewRoom<Q> {
-    fn new(alloc: Global, harts: usize, passes: usize, n: u32) -> Result<CrewRoom<Q>, AllocError>
+    fn new(
+        alloc: Global,
+        harts: usize,
+        passes: usize,
+        n: u32,
+        pools: Vec<Vec<Blank>>,
+    ) -> Result<CrewRoom<Q>, AllocError>
         requires { harts ≤ 32 }
-        ensures { IfOk result (λ room. ForCrew harts passes n room) }
+        requires pools { length pools.items ≡ harts + 1 }
+        ensures { (blanks : ℕ) → All (λ pool. length pool.items ≡ blanks) pools.items →
+            IfOk result (λ room. ForCrew harts passes n blanks room) }
     {
-        let work = WorkRoom::new(alloc, harts, passes, n as usize)?;
+        let work = WorkRoom::new(alloc, harts, passes, n as usize, pools)?;
         let used = Vec::with_capacity(alloc, passes)?;
         let home = HomeRoom::new(alloc, harts)?;
         let events = Vec::with_capacity(alloc, (harts + 1) * n as usize)?;
@@ -135,22 +159,24 @@ impl<Q: Drop> CrewRoom<Q> {
 }
 
 impl<Q: Drop> Room<Q> {
-    /// Room for so many pages, ports, harts and passes, and for so many steps of each actor.
+    /// Room for so many pages, ports, harts and passes, and for so many steps of each actor, with these pools for the actors.
     pub fn new(
         alloc: Global,
-        pages: usize,
-        ports: usize,
+        layout: Layout,
         harts: usize,
         passes: usize,
         n: u32,
+        pools: Vec<Vec<Blank>>,
     ) -> Result<Room<Q>, AllocError>
-        requires pages { pages ≤ 2 ^ 28 }
-        requires ports { ports ≤ 255 }
+        requires pages { layout.pages ≤ 2 ^ 28 }
+        requires ports { layout.ports ≤ 255 }
         requires harts { harts ≤ 32 }
-        ensures { IfOk result (λ room. HasRoom pages ports harts passes n room) }
+        requires pools { length pools.items ≡ harts + 1 }
+        ensures { (blanks : ℕ) → All (λ pool. length pool.items ≡ blanks) pools.items →
+            IfOk result (λ room. HasRoom layout.pages layout.ports harts passes n blanks room) }
     {
-        let places = PlaceRoom::new(alloc, pages, ports)?;
-        let crew = CrewRoom::new(alloc, harts, passes, n)?;
+        let places = PlaceRoom::new(alloc, layout.pages as usize, usize::from(layout.ports))?;
+        let crew = CrewRoom::new(alloc, harts, passes, n, pools)?;
         Ok(Room { places, crew })
     }
 }

@@ -1,8 +1,9 @@
 // One slice over the parts of a world, from the first step to the events in order.
-ghost use Rattle.std.specs.Prelude.{◌≡◌, ◌+◌, ◌≤◌, ◌^◌, [], length, All, IfErr, IfOk};
+ghost use Rattle.std.specs.Prelude.{◌≡◌, ◌+◌, ◌≤◌, ◌^◌, ℕ, [], length, All, IfErr, IfOk};
 ghost use Rattle.guest_pages.specs.Flat.{ArePages};
 ghost use Rattle.vm_world.specs.Worlds.{WorldValue};
 ghost use Rattle.slice_runner.specs.Opened.{AreBackParts, IsOpened, world_of};
+ghost use Rattle.slice_runner.specs.Blanks.{pool_of};
 ghost use Rattle.slice_runner.specs.Room.{ForCrew, ForPlaces, HasRoom};
 ghost use Rattle.slice_runner.specs.Slices.{IsSlice};
 ghost use Rattle.slice_runner.specs.Values.{layout_in};
@@ -12,7 +13,7 @@ use crate::room::{CrewRoom, HomeRoom, PlaceRoom, Room};
 use crate::running::run_all;
 use crate::stop::Stopped;
 use guest_devices::Device;
-use guest_pages::Page;
+use guest_pages::{Blank, Slot, mark_made};
 use hart_rv64::Hart;
 use machine_places::{MachinePlace, place_all, take_all};
 use mmio_port::Port;
@@ -28,12 +29,13 @@ use vm_host::Clock;
 use vm_types::Entry;
 use vm_world::WorldParts;
 
-/// What a slice leaves: the parts of the world, the events in order, and each actor's stop.
+/// What a slice leaves: the parts of the world, the events in order, each actor's stop, and the blanks that it has still.
 #[derive(Drop)]
 pub struct Shared {
     pub parts: WorldParts,
     pub events: Vec<Entry>,
     pub stops: Vec<Stopped>,
+    pub pools: Vec<Vec<Blank>>,
 }
 
 /// The parts of a world whose places are in a table, with the seat that has all parts of the right to act on them, and
@@ -42,7 +44,7 @@ pub struct Shared {
 pub struct Opened {
     pub places: Places,
     pub seat: TurnSeat<MachinePlace>,
-    pub pages: Vec<Page>,
+    pub pages: Vec<Slot>,
     pub ports: Vec<Port>,
     pub timer: Timer,
     pub harts: Vec<Hart>,
@@ -71,14 +73,20 @@ fn open(alloc: Global, parts: WorldParts, room: PlaceRoom) -> Result<Opened, Wor
 {
     let PlaceRoom {
         places: mut list,
+        mut made,
         mut pages,
         mut ports,
     } = room;
     let (layout, actors) = size_of(&parts);
+    mark_made(&parts.pages, &mut made);
     place_all(parts.pages, parts.ports, parts.board, &mut list);
     match Turns::new(alloc, list, actors) {
         Ok((turns, seat)) => Ok(Opened {
-            places: Places { turns, layout },
+            places: Places {
+                turns,
+                layout,
+                made,
+            },
             seat,
             pages,
             ports,
@@ -115,8 +123,9 @@ impl Opened {
         requires harts { length self.harts.items ≤ 32 }
         requires passes { length self.harts.items + 1 ≤ length passes.old.items }
         requires serve { All (G.serves gate.now) passes.old.items }
-        requires room { ForCrew (length self.harts.items) (length passes.old.items) steps room }
-        ensures slice { (w : WorldValue) → IsOpened w self → ArePages 0 w.pages → IsSlice G.tally steps (C.known clock.old) (C.known clock.new)
+        requires room { (blanks : ℕ) × ForCrew (length self.harts.items) (length passes.old.items) steps blanks room }
+        ensures slice { (w : WorldValue) → IsOpened w self → ArePages 0 w.pages →
+            All (λ pool. length pool.items ≡ pool_of steps w.pages) room.work.pools.items → IsSlice G.tally steps (C.known clock.old) (C.known clock.new)
             w result.events.items (world_of result.parts) result.stops.items passes.old.items passes.new.items }
         ensures serve { All (G.serves gate.now) passes.new.items }
         ensures same { length passes.new.items ≡ length passes.old.items }
@@ -133,14 +142,9 @@ impl Opened {
         let CrewRoom {
             work,
             passes: none,
-            home,
+            mut home,
             mut events,
         } = room;
-        let HomeRoom {
-            harts: mut harts_home,
-            mut journals,
-            mut stops,
-        } = home;
         let given = replace(passes, none);
         let mut crew = places.staff(&mut seat, timer, harts, given, work);
         run_all(
@@ -152,15 +156,18 @@ impl Opened {
             &mut crew.timer,
             &mut crew.workers,
         );
-        let timer = places.dismiss(
-            &mut seat,
-            crew,
-            passes,
-            &mut harts_home,
-            &mut journals,
-            &mut stops,
-        );
-        let Places { turns, layout: _ } = places;
+        let timer = places.dismiss(&mut seat, crew, passes, &mut home);
+        let HomeRoom {
+            harts,
+            journals,
+            stops,
+            pools,
+        } = home;
+        let Places {
+            turns,
+            layout: _,
+            made: _,
+        } = places;
         let board = take_all(turns.close(seat), &mut pages, &mut ports);
         merge(journals.as_slice(), &mut events);
         let parts = WorldParts {
@@ -168,13 +175,14 @@ impl Opened {
             board,
             ports,
             timer,
-            harts: harts_home,
+            harts,
             devices,
         };
         Shared {
             parts,
             events,
             stops,
+            pools,
         }
     }
 }
@@ -197,7 +205,7 @@ pub fn share<Q: Send + Drop, C: Clock, G: Gate<Pass = Q> + Sync, R: Threads + Wa
     requires passes { length parts.harts.items + 1 ≤ length passes.old.items }
     requires serve { All (G.serves gate.now) passes.old.items }
     requires room { HasRoom (length parts.pages.items) (length parts.ports.items) (length parts.harts.items)
-        (length passes.old.items) steps room }
+        (length passes.old.items) steps (pool_of steps parts.pages.items) room }
     ensures shared { IfOk result (λ shared. IsSlice G.tally steps (C.known clock.old) (C.known clock.new)
         (world_of parts) shared.events.items (world_of shared.parts)
         shared.stops.items passes.old.items passes.new.items) }

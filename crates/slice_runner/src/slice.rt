@@ -1,20 +1,25 @@
 // A slice of a world.
 ghost use Rattle.std.specs.Prelude.{◌≡◌, ◌+◌, ◌≤◌, length, All, IfOk, OnErr, OnOk};
 ghost use Rattle.slice_runner.specs.Slices.{AreStamps, ClockWasAsked, IsSerial, IsThere, MarksFollow};
-ghost use Rattle.vm_world.specs.Worlds.{IsSameGuest};
+ghost use Rattle.vm_world.specs.Worlds.{IsSameButSpare};
 ghost use Rattle.slice_runner.specs.Stops.{AreStopped};
 
 use crate::room::Room;
 use crate::sharing::{Shared, share};
 use crate::stop::Stopped;
+use guest_pages::Blank;
 use line_board::Board;
 use pause_gate::Gate;
+use stamp_merge::Layout;
 use std::alloc::{AllocError, Global};
 use std::sync::Wait;
 use std::thread::Threads;
 use vm_host::Clock;
 use vm_types::Entry;
 use vm_world::World;
+
+/// An actor has no more blanks than these.
+const MOST_BLANKS: usize = 256;
 
 /// What a slice hands out: the events of all actors in one order, and the stop of each, the timer's first and then the
 /// harts' by their numbers.
@@ -34,8 +39,11 @@ pub struct Slice {
 /// `Clock` answers are the clock's next ones. Nothing is said of waiting, nor of which
 /// actor gets on.
 ///
-/// The only error is want of memory, for the lists of events and journals or for what moves places. It comes before the first step, and
-/// then the world, the clock and the passes are as they were.
+/// A page that isn't made is made where an act leaves something in it, from the actor's blanks: as many as it may make steps, or as
+/// there are pages that aren't made, and 256 at most. What is left of them is spare again.
+///
+/// The only error is want of memory, for the lists of events and journals, for blanks or for what moves places. It comes before the first
+/// step, and then the clock and the passes are as they were, and the world but for how many pages are spare.
 pub fn run_slice<Q: Send + Drop, C: Clock, G: Gate<Pass = Q> + Sync, R: Threads + Wait + Sync>(
     rt: &R,
     alloc: Global,
@@ -53,36 +61,76 @@ pub fn run_slice<Q: Send + Drop, C: Clock, G: Gate<Pass = Q> + Sync, R: Threads 
     ensures stamps { IfOk result (λ slice. AreStamps slice.events.items) }
     ensures marks { IfOk result (λ slice. MarksFollow world.old.pages slice.events.items world.new.pages) }
     ensures stops { IfOk result (λ slice.
-        AreStopped G.tally steps slice.events.items world.new slice.stops.items passes.old.items passes.new.items) }
+        AreStopped G.tally steps world.old slice.events.items world.new slice.stops.items passes.old.items passes.new.items) }
     ensures clock { IfOk result (λ slice.
         ClockWasAsked (C.known clock.old) slice.events.items (C.known clock.new)) }
     ensures devices { OnOk result (world.new.devices ≡ world.old.devices) }
-    ensures failed { OnErr result (IsSameGuest world.old world.new
+    ensures failed { OnErr result (IsSameButSpare world.old world.new
         × (C.known clock.new ≡ C.known clock.old) × (passes.new.items ≡ passes.old.items)) }
     ensures serve { All (G.serves gate.now) passes.new.items }
     ensures same { length passes.new.items ≡ length passes.old.items }
 {
-    let pages = world.pages().len();
-    let ports = world.ports().len();
+    let layout = Layout {
+        pages: world.pages().len() as u32,
+        ports: world.ports().len() as u8,
+    };
     let harts = world.hart_count();
-    let room = Room::<Q>::new(alloc, pages, ports, harts, passes.len(), steps)?;
+    let blanks = (steps as usize)
+        .min(world.pages().unmade())
+        .min(MOST_BLANKS);
+    let pools = pools_of(alloc, world, harts + 1, blanks)?;
+    let room = Room::<Q>::new(alloc, layout, harts, passes.len(), steps, pools)?;
     let board = Board::new(alloc, 0)?;
-    let list = Vec::with_capacity(alloc, pages)?;
-    world.make_pages(alloc)?;
-    let parts = world.take(alloc, board, list);
+    let parts = world.take(alloc, board);
     match share(rt, alloc, gate, clock, passes, parts, room, steps) {
         Ok(shared) => {
             let Shared {
                 parts,
                 events,
                 stops,
+                pools,
             } = shared;
             world.put_back(parts);
+            give_back(world, pools);
             Ok(Slice { events, stops })
         }
         Err(parts) => {
             world.put_back(parts);
             Err(AllocError)
         }
+    }
+}
+
+// A pool of so many blanks for each of so many actors, of the world's spare pages.
+#[tactic(auto, using(crate::proofs::Pools::same_again, crate::proofs::Pools::spare_alone, crate::proofs::Pools::same_whole, crate::proofs::Pools::for_one, crate::proofs::Pools::for_others))]
+fn pools_of(
+    alloc: Global,
+    world: &mut World,
+    actors: usize,
+    blanks: usize,
+) -> Result<Vec<Vec<Blank>>, AllocError>
+    requires few { (actors ≤ 33) × (blanks ≤ 256) }
+    ensures same { IsSameButSpare world.old world.new }
+    ensures count { IfOk result (λ pools. length pools.items ≡ actors) }
+    ensures filled { IfOk result (λ pools. All (λ pool. length pool.items ≡ blanks) pools.items) }
+{
+    world.reserve_spare(alloc, actors * blanks)?;
+    let mut pools = Vec::with_capacity(alloc, actors)?;
+    for _actor in 0..actors {
+        let mut pool = Vec::with_capacity(alloc, blanks)?;
+        world.take_spare(blanks, &mut pool);
+        pools.push_reserved(pool);
+    }
+    Ok(pools)
+}
+
+// What is left of the pools is spare again.
+#[tactic(auto, using(crate::proofs::Pools::same_again))]
+fn give_back(world: &mut World, pools: Vec<Vec<Blank>>)
+    ensures { IsSameButSpare world.old world.new }
+{
+    let mut rest = pools.into_iter();
+    while let Some(pool) = rest.next() {
+        world.give_spare(pool);
     }
 }

@@ -14,6 +14,8 @@ pub enum Stop {
     Full,
     /// Its last stamp is 2^63 or more.
     Stamp,
+    /// Its want is on a page that wasn't made when the slice began, and its blanks are used up.
+    Blanks,
 }
 
 /// An actor's stop.

@@ -1,5 +1,5 @@
 // Actors at work, each with its pass and its journal.
-ghost use Rattle.std.specs.Prelude.{◌≡◌, ◌+◌, ◌<◌, ◌^◌, ℕ, true, false, vec_len, vec_capacity, IfNone, IfSome, MatchOption};
+ghost use Rattle.std.specs.Prelude.{◌≡◌, ◌+◌, ◌<◌, ◌^◌, ℕ, true, false, length, vec_len, vec_capacity, IfNone, IfSome, MatchOption};
 ghost use Rattle.vm_types.specs.declared.ids.ActorId.{ActorId};
 ghost use Rattle.hart_trace.specs.Asks.{is_port_op};
 ghost use Rattle.hart_trace.specs.States.{Hart as HartValue, hart_next, hart_wants};
@@ -9,6 +9,7 @@ ghost use Rattle.flat_guest.specs.Given.{as_given};
 ghost use Rattle.flat_guest.specs.Steps.{is_given};
 ghost use Rattle.pause_gate.specs.Tally.{Tally};
 ghost use Rattle.vm_host.specs.Telling.{ClockKnown};
+ghost use Rattle.slice_runner.specs.Blanks.{CanAct};
 ghost use Rattle.slice_runner.specs.Runs.{Begins, GoesOn, HartWorked, HasAnswered, HasEnded, IsActOf, IsAsked, IsSameBut};
 ghost use Rattle.slice_runner.specs.Runs.{IsUnderWay, StopsFor, TimerWorked, WritesDown};
 ghost use Rattle.slice_runner.specs.Seats.{IsSeated, StaysSeated};
@@ -17,6 +18,7 @@ ghost use Rattle.slice_runner.specs.Slices.{answers_of};
 use crate::acting::act_once;
 use crate::places::Places;
 use crate::stop::Stop;
+use guest_pages::Blank;
 use hart_rv64::Hart;
 use machine_places::MachinePlace;
 use pause_gate::Gate;
@@ -27,13 +29,14 @@ use vm_host::Clock;
 use vm_types::{Actor, Entry, Op, OutOp, Reply};
 
 /// What an actor did in a slice: the pass with which it asks the gate, whether its last reply was that the console ring is
-/// full, why it stopped; and who it is, with its last stamp, its seat, and its entries in room that was made before.
+/// full, why it stopped; who it is, with its last stamp, its seat, and its entries in room that was made before; and its blanks.
 #[derive(Drop)]
 pub struct Track<Q> {
     pub pass: Q,
     pub full: bool,
     pub stop: Stop,
     pub work: Worker<MachinePlace>,
+    pub pool: Vec<Blank>,
 }
 
 /// A hart at work.
@@ -52,13 +55,13 @@ pub struct TimerWorker<Q> {
 
 impl<Q> Track<Q> {
     // Why the actor makes no further step with this want; `None` where it makes one. A wait is made only as a first step.
-    fn stops<G: Gate<Pass = Q>>(&mut self, gate: &G, want: &Op) -> Option<Stop>
+    fn stops<G: Gate<Pass = Q>>(&mut self, gate: &G, places: &Places, want: &Op) -> Option<Stop>
         requires { G.serves gate.now self.old.pass }
         ensures pass { G.serves gate.now self.new.pass }
         ensures same { IsSameBut self.old self.new }
         ensures why { MatchOption result
-            (GoesOn G.tally want.now self.old self.new)
-            (StopsFor G.tally want.now self.old self.new) }
+            (GoesOn G.tally places.now.layout places.now.made.items want.now self.old self.new)
+            (StopsFor G.tally places.now.layout places.now.made.items want.now self.old self.new) }
     {
         if !self.work.journal.is_empty() && matches!(want, Op::Idle) {
             return Some(Stop::Idle);
@@ -68,6 +71,9 @@ impl<Q> Track<Q> {
         }
         if self.work.clock >= 1 << 63 {
             return Some(Stop::Stamp);
+        }
+        if self.pool.is_empty() && !places.was_made(want) {
+            return Some(Stop::Blanks);
         }
         if gate.ask(&mut self.pass) {
             None
@@ -90,11 +96,12 @@ impl<Q> Track<Q> {
         requires clock { self.old.work.clock < 2 ^ 63 }
         requires given { is_given op.now (as_given given) ≡ true }
         requires port { is_port_op op.now ≡ false }
+        requires fed { CanAct places.now.made.items places.now.layout op.now (length self.old.pool.items) }
         ensures seat { StaysSeated places.now self.old.work self.new.work }
         ensures entry { IsActOf result self.old.work.actor op.now (as_given given) places.now.layout self.old.work.clock }
         ensures wrote { WritesDown result self.old self.new }
     {
-        let entry = act_once(rt, gate, places, &mut self.work, op, given);
+        let entry = act_once(rt, gate, places, self, op, given);
         self.full = matches!(entry.reply, Reply::Full);
         entry
     }
@@ -116,16 +123,16 @@ impl<Q> HartWorker<Q> {
         ensures seat { StaysSeated places.now self.old.track.work self.new.track.work }
         ensures room { vec_capacity self.new.track.work.journal ≡ vec_capacity self.old.track.work.journal }
         ensures one { IfNone result (vec_len self.new.track.work.journal ≡ vec_len self.old.track.work.journal + 1) }
-        ensures went { IfNone result ((id : ActorId) (s : HartValue) (c : Tally) →
-            IsUnderWay hart_wants hart_next G.tally places.now.layout id s c self.old.hart self.old.track →
-            IsUnderWay hart_wants hart_next G.tally places.now.layout id s c self.new.hart self.new.track) }
-        ensures ended { IfSome result (λ stop. (id : ActorId) (s : HartValue) (c : Tally) (n : ℕ) →
-            IsUnderWay hart_wants hart_next G.tally places.now.layout id s c self.old.hart self.old.track →
+        ensures went { IfNone result ((id : ActorId) (s : HartValue) (c : Tally) (blanks : ℕ) →
+            IsUnderWay hart_wants hart_next G.tally places.now.layout id s c blanks self.old.hart self.old.track →
+            IsUnderWay hart_wants hart_next G.tally places.now.layout id s c blanks self.new.hart self.new.track) }
+        ensures ended { IfSome result (λ stop. (id : ActorId) (s : HartValue) (c : Tally) (n blanks : ℕ) →
+            IsUnderWay hart_wants hart_next G.tally places.now.layout id s c blanks self.old.hart self.old.track →
             vec_len self.old.track.work.journal < n →
-            HasEnded hart_wants hart_next G.tally places.now.layout id s c n self.new.hart self.new.track stop) }
+            HasEnded hart_wants hart_next G.tally places.now.layout places.now.made.items id s c n blanks self.new.hart self.new.track stop) }
     {
         let op = self.hart.want();
-        if let Some(stop) = self.track.stops(gate, &op) {
+        if let Some(stop) = self.track.stops(gate, places, &op) {
             return Some(stop);
         }
         let entry = self.track.act(rt, gate, places, &op, None);
@@ -137,10 +144,10 @@ impl<Q> HartWorker<Q> {
     pub fn run<R: Wait, G: Gate<Pass = Q>>(&mut self, rt: &R, gate: &G, places: &Places, n: u32)
         requires pass { G.serves gate.now self.old.track.pass }
         requires seat { IsSeated places.now self.old.track.work }
-        requires begins { Begins n self.old.track }
+        requires begins { Begins n (length self.old.track.pool.items) self.old.track }
         ensures pass { G.serves gate.now self.new.track.pass }
         ensures seat { StaysSeated places.now self.old.track.work self.new.track.work }
-        ensures worked { HartWorked G.tally places.now.layout n self.old self.new }
+        ensures worked { HartWorked G.tally places.now.layout places.now.made.items n self.old self.new }
     {
         for _step in 0..n {
             if let Some(stop) = self.step(rt, gate, places) {
@@ -179,19 +186,19 @@ impl<Q> TimerWorker<Q> {
         ensures seat { StaysSeated places.now self.old.track.work self.new.track.work }
         ensures room { vec_capacity self.new.track.work.journal ≡ vec_capacity self.old.track.work.journal }
         ensures one { IfNone result (vec_len self.new.track.work.journal ≡ vec_len self.old.track.work.journal + 1) }
-        ensures went { IfNone result ((id : ActorId) (s : TimerValue) (c : Tally) →
-            IsUnderWay timer_wants timer_next G.tally places.now.layout id s c self.old.timer self.old.track →
-            IsUnderWay timer_wants timer_next G.tally places.now.layout id s c self.new.timer self.new.track) }
-        ensures ended { IfSome result (λ stop. (id : ActorId) (s : TimerValue) (c : Tally) (n : ℕ) →
-            IsUnderWay timer_wants timer_next G.tally places.now.layout id s c self.old.timer self.old.track →
+        ensures went { IfNone result ((id : ActorId) (s : TimerValue) (c : Tally) (blanks : ℕ) →
+            IsUnderWay timer_wants timer_next G.tally places.now.layout id s c blanks self.old.timer self.old.track →
+            IsUnderWay timer_wants timer_next G.tally places.now.layout id s c blanks self.new.timer self.new.track) }
+        ensures ended { IfSome result (λ stop. (id : ActorId) (s : TimerValue) (c : Tally) (n blanks : ℕ) →
+            IsUnderWay timer_wants timer_next G.tally places.now.layout id s c blanks self.old.timer self.old.track →
             vec_len self.old.track.work.journal < n →
-            HasEnded timer_wants timer_next G.tally places.now.layout id s c n self.new.timer self.new.track stop) }
+            HasEnded timer_wants timer_next G.tally places.now.layout places.now.made.items id s c n blanks self.new.timer self.new.track stop) }
         ensures answers { (start : ClockKnown) →
             HasAnswered start (answers_of self.old.track.work.journal.items) (C.known clock.old) →
             HasAnswered start (answers_of self.new.track.work.journal.items) (C.known clock.new) }
     {
         let op = self.timer.want();
-        if let Some(stop) = self.track.stops(gate, &op) {
+        if let Some(stop) = self.track.stops(gate, places, &op) {
             return Some(stop);
         }
         let given = ask_clock(clock, &op);
@@ -211,10 +218,10 @@ impl<Q> TimerWorker<Q> {
     )
         requires pass { G.serves gate.now self.old.track.pass }
         requires seat { IsSeated places.now self.old.track.work }
-        requires begins { Begins n self.old.track }
+        requires begins { Begins n (length self.old.track.pool.items) self.old.track }
         ensures pass { G.serves gate.now self.new.track.pass }
         ensures seat { StaysSeated places.now self.old.track.work self.new.track.work }
-        ensures worked { TimerWorked G.tally places.now.layout n self.old self.new }
+        ensures worked { TimerWorked G.tally places.now.layout places.now.made.items n self.old self.new }
         ensures answers { HasAnswered (C.known clock.old) (answers_of self.new.track.work.journal.items) (C.known clock.new) }
     {
         for _step in 0..n {

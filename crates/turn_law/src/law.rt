@@ -1,7 +1,6 @@
 // The laws.
 ghost use Rattle.turn_law.specs.Rounds.{ToldIsRun, ToldIsStamped};
 
-use stamp_merge::one_order;
 use turn_table::Fed;
 use vm_types::Actor;
 
@@ -10,9 +9,7 @@ use vm_types::Actor;
 /// and each journal follows its actor's wants.
 pub fn told_is_run<P: Fed, A: Actor>()
     ensures { ToldIsRun P.touch P.value P.made A.wants A.next }
-{
-    one_order::<P, A>();
-}
+{}
 
 /// In that order each stamp is one more than the larger of the last stamps before it of its actor and of its place, if those of each
 /// journal are so behind what its entries found.

@@ -42,7 +42,7 @@ use Rattle.flat_guest.proofs.Marked.{none_marked}
 use Rattle.flat_guest.proofs.Stepping.{HasMade, HasStopped, entry_of, has_made_more, ran, step_is, stays}
 use Rattle.vm_world.specs.declared.step_error.StepError.{StepError}
 use Rattle.vm_world.specs.Refusing.{IsRefused, refusal_of}
-use Rattle.vm_world.specs.Worlds.{IsSameGuest, IsWorld, IsWorldReset, MakesEvent, Runs, WorldValue, body_of, pages_of, place_in, want_in}
+use Rattle.vm_world.specs.Worlds.{IsSameButSpare, IsWorld, IsWorldReset, MakesEvent, Runs, WorldValue, body_of, pages_of, place_in, want_in}
 
 -- an op that acts on a page is an access
 port_page : (b : Bool) (port i : ℕ) → (let place : PlaceId = if b then PlaceId.Port port else PlaceId.Out in place) ≡ PlaceId.Page i → ⊥
@@ -321,15 +321,11 @@ pub host_ready : (w : WorldValue) (op : Op) → is_host_op op ≡ true → is_re
 host_ready w (Op.Out act) is = refl
 host_ready w op is = cc
 
--- and with other pages made, or spare
-pub same_body : (old new : WorldValue) → IsSameGuest old new → body_of new ≡ body_of old
-same_body old new same =
-    let rest = ap body_of same.rest in
-    let memory = same.memory in
-    let marks = same.marks in
-    rest ∙ (λ i. record (body_of old) { memory = memory i; marks = marks i })
+-- and with other pages spare
+pub same_body : (old new : WorldValue) → IsSameButSpare old new → body_of new ≡ body_of old
+same_body old new same = ap body_of same
 
-pub same_world : (old new : WorldValue) (g : Guest) → IsSameGuest old new → IsWorld old g → IsWorld new g
+pub same_world : (old new : WorldValue) (g : Guest) → IsSameButSpare old new → IsWorld old g → IsWorld new g
 same_world old new g same is = subst (λ (n : Body). IsGuest n g) (sym (same_body old new same)) is
 
 -- events of an actor, one after another

@@ -37,11 +37,9 @@ world_with pages board ports timer harts devices =
 abbrev pub pages_of : WorldValue → PagesValue
 pages_of w = record { pages = w.pages; spare = w.spare }
 
--- it differs in which pages are made and in how many are spare alone, of which no guest of it knows
-pub record IsSameGuest (old new : WorldValue) : Type 0 where
-  pub memory : flat_of new.pages ≡ flat_of old.pages
-  pub marks : marks_of new.pages ≡ marks_of old.pages
-  pub rest : new ≡ record old { pages = new.pages; spare = new.spare }
+-- it differs in how many pages are spare alone, of which no guest of it knows
+abbrev pub IsSameButSpare : WorldValue → WorldValue → Type 0
+IsSameButSpare old new = new ≡ record old { spare = new.spare }
 
 -- the pages as one memory, which of them are marked, what the devices have still to do, and the rest as it is
 abbrev pub body_of : WorldValue → Body

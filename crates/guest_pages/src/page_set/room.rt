@@ -1,12 +1,10 @@
 // Room for acts: spare pages, from which others are made.
-ghost use Rattle.std.specs.Prelude.{◌≡◌, ◌+◌, ◌≤◌, IfOk, OnErr, OnOk, length, map, max, min, vec_capacity};
+ghost use Rattle.std.specs.Prelude.{◌≡◌, ◌+◌, ◌≤◌, IfOk, OnErr, OnOk, length, max, min, vec_capacity};
 ghost use Rattle.vm_types.specs.declared.ids.PlaceId.{PlaceId};
 ghost use Rattle.guest_pages.specs.Made.{HasRoom, is_ready, unmade};
-ghost use Rattle.guest_pages.specs.Pages.{page_made};
 
 use super::PageSet;
 use crate::blank::Blank;
-use crate::slot::Slot;
 use std::alloc::{AllocError, Global};
 
 impl PageSet {
@@ -49,16 +47,6 @@ impl PageSet {
         Ok(())
     }
 
-    /// Makes every page, each of a spare one.
-    pub fn make_all(&mut self)
-        requires { unmade self.old.pages ≤ self.old.spare }
-        ensures pages { self.new.pages ≡ map page_made self.old.pages }
-        ensures spare { self.new.spare + unmade self.old.pages ≡ self.old.spare }
-        ensures all { unmade self.new.pages ≡ 0 }
-    {
-        make_each(&mut self.pages, &mut self.spare);
-    }
-
     /// Room for so many acts: as many pages spare as there are acts, or pages that aren't made.
     ///
     /// Errors: want of memory, and then everything is as it was.
@@ -72,16 +60,6 @@ impl PageSet {
             return Err(AllocError);
         };
         Ok(())
-    }
-}
-
-fn make_each(pages: &mut [Slot], spare: &mut Vec<Blank>)
-    requires { unmade pages.old ≤ length spare.old.items }
-    ensures pages { pages.new ≡ map page_made pages.old }
-    ensures spare { length spare.new.items + unmade pages.old ≡ length spare.old.items }
-{
-    for page in pages.iter_mut() {
-        page.make(spare);
     }
 }
 

@@ -61,7 +61,7 @@ returns-clause-turn g c =
             stays_then _ _ _ (stays_serial _ _ c.in-Ok.slice.events.items c.in-Ok.ensures.serial) (stays_drained _ _ told.world);
         unclosed = λ is. cc;
       };
-      passes = passed_slice _ _ _ _ _ _ _ _ c.in-Ok.ensures.stops c.slice_by.ensures.serve c.slice_by.ensures.same;
+      passes = passed_slice _ _ _ _ _ _ _ _ _ c.in-Ok.ensures.stops c.slice_by.ensures.serve c.slice_by.ensures.same;
     }
 
 pub returns-in_default-clause-paced : goal.returns-in_default-clause-paced
@@ -75,7 +75,7 @@ returns-in-Err-clause-paced g c = λ several none.
       mid = c.slice_by.new.world;
       serial = c.in-Ok.ensures.serial;
       stopped =
-          subst (λ (n : ℕ). AreStopped g.G.Gate.tally n c.in-Ok.slice.events.items c.slice_by.new.world c.in-Ok.slice.stops.items
+          subst (λ (n : ℕ). AreStopped g.G.Gate.tally n c.args.world.now c.in-Ok.slice.events.items c.slice_by.new.world c.in-Ok.slice.stops.items
           c.args.steering.now.passes.items c.slice_by.new.passes.items) c.steps_each-each.ensures c.in-Ok.ensures.stops;
       drained = c.in-Err.ensures.world;
     })
@@ -88,7 +88,7 @@ returns-clause-paced g c = λ several none.
       mid = c.slice_by.new.world;
       serial = c.in-Ok.ensures.serial;
       stopped =
-          subst (λ (n : ℕ). AreStopped g.G.Gate.tally n c.in-Ok.slice.events.items c.slice_by.new.world c.in-Ok.slice.stops.items
+          subst (λ (n : ℕ). AreStopped g.G.Gate.tally n c.args.world.now c.in-Ok.slice.events.items c.slice_by.new.world c.in-Ok.slice.stops.items
           c.args.steering.now.passes.items c.slice_by.new.passes.items) c.steps_each-each.ensures c.in-Ok.ensures.stops;
       drained = c.in_default-tell_slice.ensures.world;
     })

@@ -3,7 +3,7 @@ use Rattle.turn_table.specs.Views.{noted}
 use Rattle.slice_cases.proofs.turns.work.Goals as goal
 
 pub act_turn-entry-requires-clause-fed : goal.act_turn-entry-requires-clause-fed
-act_turn-entry-requires-clause-fed g c = inr (omega arith)
+act_turn-entry-requires-clause-fed g c = inr (omega (arith, c.if-is_empty.false, c.is_empty.ensures))
 
 pub loop-act-preserved : goal.loop-act-preserved
 loop-act-preserved g c =

@@ -1,4 +1,5 @@
 use Rattle.std.proofs.Common.{map, length, refl, sym, ap, ◌∙◌, subst, arith}
+use Rattle.std.proofs.lemmas.List.{length-map}
 use Rattle.machine_places.specs.Laid.{AreLaid, place_of}
 use Rattle.machine_places.proofs.Named.{as_many}
 use Rattle.vm_world.specs.Worlds.{world_with}
@@ -38,10 +39,11 @@ returns-in-Ok-clause-opened c =
     let w = world_of c.args.parts in
     let view = made.view in
     record {
-      seat = bare_first _ _ _ _ w made.seat view c.size_of-actors.ensures.layout c.place_all.ensures.laid;
+      seat = bare_first _ _ _ _ w made.seat view c.size_of-actors.ensures.layout c.mark_made.ensures c.place_all.ensures.laid;
       all = ap (λ v. v.parts) view ∙ sym made.whole;
       parts = ap (λ v. v.parts) view ∙ c.size_of-actors.ensures.parts;
       layout = c.size_of-actors.ensures.layout;
+      made = c.mark_made.ensures;
       laid = subst (λ r. AreLaid w.pages w.ports w.board r.opens) (sym (ap (λ v. v.round) view)) c.place_all.ensures.laid;
       timer = refl;
       harts = refl;
@@ -51,3 +53,7 @@ returns-in-Ok-clause-opened c =
       no_ports = c.requires.room.no_ports;
       for_ports = c.requires.room.for_ports;
     }
+
+pub invariant_of-result-clause-marked : goal.invariant_of-result-clause-marked
+invariant_of-result-clause-marked c =
+    omega (arith, ap length c.mark_made.ensures, length-map c.args.parts.pages.items (λ p. p.made), ap (λ l. l.pages) c.size_of-actors.ensures.layout)

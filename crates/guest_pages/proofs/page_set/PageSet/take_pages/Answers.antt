@@ -1,13 +1,15 @@
-use Rattle.std.proofs.Common.{ap, ◌∙◌, length, arith}
-use Rattle.std.proofs.lemmas.List.{with_items_is}
-use Rattle.guest_pages.specs.Pages.{new_pages}
-use Rattle.guest_pages.proofs.Each.{taken_set}
+use Rattle.std.proofs.Common.{◌≡◌, List, [], length, refl, sym, ap, subst, arith, rules}
+use Rattle.guest_pages.specs.Flat.{ArePages, AreSummed}
+use Rattle.guest_pages.specs.Made.{unmade}
+use Rattle.guest_pages.specs.Pages.{PageValue, marks_of}
+use Rattle.guest_pages.proofs.Blocks.{none_summed}
 use Rattle.guest_pages.proofs.page_set.PageSet.take_pages.Goals as goal
 
 pub invariant_of-self : goal.invariant_of-self
 invariant_of-self c =
-    let same = c.deref_mut.ensures.value in
-    let long = c.take_each.auto.pages in
-    taken_set _ (length c.self.inside.pages.items) (length c.self.inside.spare.items) c.len-self-inside.result
-    (with_items_is c.self.inside.pages c.take_each.new.pages (omega (arith, long, ap length same, c.self.inside.pages.ok)) ∙ c.take_each.ensures.left ∙ ap (λ l. new_pages 0 (length l)) same)
-    (omega (arith, c.len-self-inside.ensures, c.self.inside.spare.ok))
+    let none : c.replace-pages.new.dest.items ≡ [] = search rules in
+    record {
+      are = subst (λ (pages : List PageValue). ArePages 0 pages) (sym none) tt;
+      owns = omega (arith, c.len-self-inside.ensures, ap (λ (pages : List PageValue). length pages) none, ap unmade none);
+      summed = subst (λ (pages : List PageValue). AreSummed (marks_of pages) c.self.inside.blocks.items) (sym none) (none_summed [] c.self.inside.blocks.items 0 refl);
+    }

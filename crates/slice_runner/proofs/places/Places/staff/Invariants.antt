@@ -15,11 +15,13 @@ invariant-loop-hart g l = record {
   sit : All (λ w. IsSeatedIn l.self l.fn.seat.me.0.round w.track.work) l.workers.items;
   timer : l.first.timer ≡ l.fn.timer;
   first : l.first.track.work.actor ≡ ActorId.Timer;
-  begins : (n : ℕ) → All (λ journal. n ≤ vec_capacity journal) l.fn.room.blank.items → Begins n l.first.track;
+  begins : (n blanks : ℕ) → All (λ journal. n ≤ vec_capacity journal) l.fn.room.blank.items
+      → All (λ pool. length pool.items ≡ blanks) l.fn.room.pools.items → Begins n blanks l.first.track;
   harts : harts_of l.workers.items ++ into_iter_items l.rest ≡ l.fn.harts.items;
   passes : l.first.track.pass ∷ (passes_of l.workers.items ++ into_iter_items l.passes) ≡ l.fn.passes.items;
   numbered : AreNumbered 0 l.workers.items;
-  begin : (n : ℕ) → All (λ journal. n ≤ vec_capacity journal) l.fn.room.blank.items → All (λ w. Begins n w.track) l.workers.items;
+  begin : (n blanks : ℕ) → All (λ journal. n ≤ vec_capacity journal) l.fn.room.blank.items
+      → All (λ pool. length pool.items ≡ blanks) l.fn.room.pools.items → All (λ w. Begins n blanks w.track) l.workers.items;
   number : l.number ≡ vec_len l.workers;
   harts_left : l.number + length (into_iter_items l.rest) ≡ length l.fn.harts.items;
   passes_left : length (into_iter_items l.rest) ≤ length (into_iter_items l.passes);
@@ -27,6 +29,8 @@ invariant-loop-hart g l = record {
   journals : length l.journals.items ≡ length (into_iter_items l.rest);
   blank : All (λ journal. journal.items ≡ []) l.journals.items;
   hold : (n : ℕ) → All (λ journal. n ≤ vec_capacity journal) l.fn.room.blank.items → All (λ journal. n ≤ vec_capacity journal) l.journals.items;
+  pools : length l.pools.items ≡ length (into_iter_items l.rest);
+  filled : (blanks : ℕ) → All (λ pool. length pool.items ≡ blanks) l.fn.room.pools.items → All (λ pool. length pool.items ≡ blanks) l.pools.items;
   room : length l.fn.harts.items ≤ vec_capacity l.workers;
 }
 

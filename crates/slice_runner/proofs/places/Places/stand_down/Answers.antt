@@ -8,12 +8,12 @@ use Rattle.slice_runner.proofs.places.Places.stand_down.Goals as goal
 
 pub returns-clause-journals : goal.returns-clause-journals
 returns-clause-journals g c =
-    c.push_reserved-2.ensures.items ∙ ap (λ j. c.args.journals.now.items ++ j ∷ []) c.leave-journal.ensures.journal
+    c.push_reserved-2.ensures.items ∙ ap (λ j. c.args.home.now.journals.items ++ j ∷ []) c.leave-journal.ensures.journal
 
 pub returns-clause-noted : goal.returns-clause-noted
 returns-clause-noted g c =
     let w = c.args.track.work in
-    let old = c.args.journals.now.items in
+    let old = c.args.home.now.journals.items in
     let index = index_among c.args.self.now.layout in
     let more = all_more old c.push_reserved-2.new.self.items c.leave-journal.result c.push_reserved-2.ensures.items
     ∙ ap (λ j. all_of (journals_of old) ++ j.entries.items) c.leave-journal.ensures.journal in

@@ -19,4 +19,5 @@ returns-clause-begins g c = λ n room.
       clock = made.1;
       full = refl;
       room = subst (λ j. n ≤ vec_capacity j) (sym made.2) room;
+      pool = refl;
     }

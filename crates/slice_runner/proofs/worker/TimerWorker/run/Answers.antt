@@ -1,4 +1,4 @@
-use Rattle.std.proofs.Common.{sym, ◌∙◌, ◌≤◌, ◌<◌, subst, ap, ℕ, ◌+◌}
+use Rattle.std.proofs.Common.{length, sym, ◌∙◌, ◌≤◌, ◌<◌, subst, ap, ℕ, ◌+◌}
 use Rattle.slice_runner.proofs.Seats.{seated_still}
 use Rattle.slice_runner.proofs.worker.TimerWorker.run.Goals as goal
 
@@ -6,7 +6,7 @@ pub returns-in-Some-clause-worked : goal.returns-in-Some-clause-worked
 returns-in-Some-clause-worked g c =
     let before = c.args.self.now in
     let less = subst (λ (k : ℕ). k < c.args.n) (sym c.loop-step.invariant.made) c.loop-step-test.true in
-    let ended = c.in-Some.ensures.ended before.track.work.actor before.timer (g.G.Gate.tally before.track.pass) c.args.n c.loop-step.invariant.way less in
+    let ended = c.in-Some.ensures.ended before.track.work.actor before.timer (g.G.Gate.tally before.track.pass) c.args.n (length before.track.pool.items) c.loop-step.invariant.way less in
     record { same = ended.same; ran = ended.ran; cause = ended.cause }
 
 pub returns-in-Some-clause-seat : goal.returns-in-Some-clause-seat
@@ -20,6 +20,6 @@ loop-step-preserved g c = record {
   seat = seated_still c.args.places.now c.args.self.now.track.work.seat.me.0.round c.loop-step.self.track.work c.step.new.self.track.work c.loop-step.invariant.seat.round_is c.in_default.ensures.seat;
   made = c.in_default.ensures.one ∙ ap (λ (k : ℕ). k + 1) c.loop-step.invariant.made;
   room = subst (λ (k : ℕ). c.args.n ≤ k) (sym c.in_default.ensures.room) c.loop-step.invariant.room;
-  way = c.in_default.ensures.went c.args.self.now.track.work.actor c.args.self.now.timer (g.G.Gate.tally c.args.self.now.track.pass) c.loop-step.invariant.way;
+  way = c.in_default.ensures.went c.args.self.now.track.work.actor c.args.self.now.timer (g.G.Gate.tally c.args.self.now.track.pass) (length c.args.self.now.track.pool.items) c.loop-step.invariant.way;
   answers = c.in_default.ensures.answers (g.C.Clock.known c.args.clock.now) c.loop-step.invariant.answers;
 }

@@ -21,8 +21,8 @@ returns-in-Some-clause-seat g c =
     seated_same c.args.places.now c.args.self.now.track.work c.stops.new.self.work c.requires.seat c.in-Some.ensures.same.work
 
 pub returns-clause-went : goal.returns-clause-went
-returns-clause-went g c = λ id s found way.
-    went timer_wants timer_next g.G.Gate.tally c.args.places.now.layout id s found c.args.self.now.timer c.args.self.now.track c.stops.new.self c.want-op.result way c.in_default.ensures.same c.want-op.ensures c.act-entry.new.self c.act-entry.result _ c.give.new.self c.in_default.ensures.why c.act-entry.ensures.entry c.act-entry.ensures.wrote c.give.ensures
+returns-clause-went g c = λ id s found blanks way.
+    went timer_wants timer_next g.G.Gate.tally c.args.places.now.layout c.args.places.now.made.items id s found blanks c.args.self.now.timer c.args.self.now.track c.stops.new.self c.want-op.result way c.in_default.ensures.same c.want-op.ensures c.act-entry.new.self c.act-entry.result _ c.give.new.self c.in_default.ensures.why c.act-entry.ensures.entry c.act-entry.ensures.wrote c.give.ensures
 
 pub returns-clause-answers : goal.returns-clause-answers
 returns-clause-answers g c = λ start had.

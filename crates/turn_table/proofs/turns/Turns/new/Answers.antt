@@ -12,5 +12,5 @@ new-requires g c =
     let xs : List (Held g.row.P.Denot) = c.args.places.items in
     let words : c.deref.result.now ≡ replicate (length xs) 0 = search rules in
     let opens : c.of.result.value.items ≡ xs = search rules in
-    subst (λ (ys : List (Held g.row.P.Denot)). IsKept g.P.Place.touch g.P.Place.value g.P.Fed.made c.args.parts (opening c.deref.result.now xs (newcomer c.args.parts (record { number = 0; opens = ys })))) (sym opens)
-    (opens_kept g.P.Place.touch g.P.Place.value g.P.Fed.made c.args.parts c.deref.result.now xs words (recursion_from_All IsNew xs c.requires.new) c.requires.parts.1)
+    subst (λ (ys : List (Held g.row.P.Denot)). IsKept g.P.Fed.touch g.P.Fed.value g.P.Fed.made c.args.parts (opening c.deref.result.now xs (newcomer c.args.parts (record { number = 0; opens = ys })))) (sym opens)
+    (opens_kept g.P.Fed.touch g.P.Fed.value g.P.Fed.made c.args.parts c.deref.result.now xs words (recursion_from_All IsNew xs c.requires.new) c.requires.parts.1)

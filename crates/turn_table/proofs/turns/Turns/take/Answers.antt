@@ -6,5 +6,5 @@ pub compare_exchange-found-requires : goal.compare_exchange-found-requires
 compare_exchange-found-requires g c = (
   search rules,
   search rules,
-  takes_turn g.P.Place.touch g.P.Place.value g.P.Fed.made c.args.self.now.table.shared.key.parts _ _ _ _ _ c.requires.free.0 c.requires.free.1 (subst (λ (n : ℕ). c.args.place < n) c.args.self.now.sized c.requires.place) c.requires.word.0,
+  takes_turn g.P.Fed.touch g.P.Fed.value g.P.Fed.made c.args.self.now.table.shared.key.parts _ _ _ _ _ c.requires.free.0 c.requires.free.1 (subst (λ (n : ℕ). c.args.place < n) c.args.self.now.sized c.requires.place) c.requires.word.0,
 )
