@@ -1,5 +1,5 @@
-//! A balloon (VIRTIO 1.2, 5.5) as a kind of device on the rounds of `queue_device`. No machine has one yet. `BalloonDevice` keeps
-//! what one has still to do.
+//! A balloon (VIRTIO 1.2, 5.5) as a kind of device on the rounds of `queue_device`. `BalloonDevice` keeps what one has still to
+//! do.
 #![tactic(auto)]
 
 mod device;
@@ -11,7 +11,7 @@ mod statistics;
 mod telling;
 mod valid;
 
-pub use device::BalloonDevice;
+pub use device::{BalloonDevice, new_balloon_device};
 pub use kind::{BalloonChange, BalloonKind, Stage};
 pub use law::{balloon_does, balloon_goes_on, balloon_kept, balloon_stays};
 pub use new_balloon::{NewBalloon, configuration};

@@ -158,7 +158,7 @@ interface_narrow : (i : Interface) → is_interface i ≡ true → IsNarrowNew (
 interface_narrow i is =
     let own = interface_parts i is in
     λ yes. record {
-      text = (omega arith, All-nil IsByte);
+      text = (omega arith, All-nil IsByte, refl);
       rx = limits_small i.rx_rate_limiter own.receives;
       tx = limits_small i.tx_rate_limiter own.transmits;
     }

@@ -9,7 +9,7 @@ ghost use Rattle.guest_devices.specs.Kept.{device_left, device_port, is_kept, is
 
 use crate::block::rounds_sized;
 use crate::change::DeviceChange;
-use balloon_device::{BalloonDevice, BalloonKind, NewBalloon};
+use balloon_device::{BalloonDevice, BalloonKind, NewBalloon, new_balloon_device};
 use queue_device::QueueRounds;
 use vm_types::{Actor, Op, Reply};
 
@@ -17,7 +17,7 @@ use vm_types::{Actor, Op, Reply};
 pub fn new_balloon(port: u8, pages: u32, what: &NewBalloon) -> BalloonDevice
     ensures { (new : NewDevice) → new ≡ starts.Balloon what.now → device_left (device.Balloon result) ≡ new_left port pages new }
 {
-    BalloonDevice::new(port, pages, what.interval)
+    new_balloon_device(port, pages, what.interval)
 }
 
 /// What it wants.
@@ -70,7 +70,7 @@ pub fn balloon_again(balloon: &BalloonDevice) -> BalloonDevice
     ensures kept { (it : Device) → it ≡ device.Balloon balloon.now → is_kept it ≡ true }
 {
     let _kept = kept_balloon(balloon);
-    BalloonDevice::from_state(balloon.state().again()).unwrap()
+    balloon.again()
 }
 
 /// The number of its port.

@@ -12,7 +12,7 @@ ghost use Rattle.guest_devices.specs.Kept.{are_short, device_left, device_port, 
 
 use crate::change::DeviceChange;
 use crate::drive::NewDrive;
-use block_device::{Block, BlockChange, BlockData, BlockKind};
+use block_device::{Block, BlockChange, BlockData, BlockKind, new_block_device};
 use queue_device::{QueueRounds, Rounds, TakenChain};
 use vm_types::{Actor, Op, Reply};
 
@@ -26,7 +26,7 @@ pub fn new_block(port: u8, pages: u32, drive: &NewDrive) -> Block
         is_read_only: drive.is_read_only,
         limits: drive.limits.again(),
     };
-    Block::new(port, pages, facts)
+    new_block_device(port, pages, facts)
 }
 
 /// What it wants.
@@ -109,7 +109,7 @@ pub fn block_again(block: &Block) -> Block
     ensures kept { (it : Device) → it ≡ device.Block block.now → is_kept it ≡ true }
 {
     let _kept = kept_block(block);
-    Block::from_state(block.state().again()).unwrap()
+    block.again()
 }
 
 /// The number of its port.

@@ -9,7 +9,7 @@ ghost use Rattle.guest_devices.specs.Kept.{device_left, device_port, is_kept, is
 
 use crate::block::rounds_sized;
 use crate::change::DeviceChange;
-use net_device::{NetDevice, NetKind, NewNet};
+use net_device::{NetDevice, NetKind, NewNet, new_net_device};
 use queue_device::QueueRounds;
 use vm_types::{Actor, Op, Reply};
 
@@ -17,7 +17,7 @@ use vm_types::{Actor, Op, Reply};
 pub fn new_net(port: u8, pages: u32, what: &NewNet) -> NetDevice
     ensures { (new : NewDevice) → new ≡ starts.Net what.now → device_left (device.Net result) ≡ new_left port pages new }
 {
-    NetDevice::new(port, pages, what.rx.again(), what.tx.again())
+    new_net_device(port, pages, what.rx.again(), what.tx.again())
 }
 
 /// What it wants.
@@ -70,7 +70,7 @@ pub fn net_again(net: &NetDevice) -> NetDevice
     ensures kept { (it : Device) → it ≡ device.Net net.now → is_kept it ≡ true }
 {
     let _kept = kept_net(net);
-    NetDevice::from_state(net.state().again()).unwrap()
+    net.again()
 }
 
 /// The number of its port.

@@ -11,13 +11,13 @@ use crate::block::rounds_sized;
 use crate::change::DeviceChange;
 use queue_device::QueueRounds;
 use vm_types::{Actor, Op, Reply};
-use vsock_device::{NewVsock, VsockDevice, VsockKind};
+use vsock_device::{NewVsock, VsockChange, VsockDevice, VsockKind, new_vsock_device};
 
 /// The vsock device of this port that has done nothing, in a guest of so many pages.
 pub fn new_vsock(port: u8, pages: u32, what: &NewVsock) -> VsockDevice
     ensures { (new : NewDevice) → new ≡ starts.Vsock what.now → device_left (device.Vsock result) ≡ new_left port pages new }
 {
-    VsockDevice::new(port, pages, what.guest_cid)
+    new_vsock_device(port, pages, what.guest_cid)
 }
 
 /// What it wants.
@@ -40,7 +40,7 @@ pub fn reset_vsock(vsock: &mut VsockDevice)
     ensures { (it after : Device) → it ≡ device.Vsock vsock.old → after ≡ device.Vsock vsock.new →
         device_left after ≡ left_reset (device_left it) }
 {
-    vsock.reset();
+    vsock.change(VsockChange::Reset);
 }
 
 /// It is told of a change, and none is one of a vsock device.
@@ -75,7 +75,7 @@ pub fn vsock_again(vsock: &VsockDevice) -> VsockDevice
     ensures kept { (it : Device) → it ≡ device.Vsock vsock.now → is_kept it ≡ true }
 {
     let _kept = kept_vsock(vsock);
-    VsockDevice::from_state(vsock.state().again()).unwrap()
+    vsock.again()
 }
 
 /// The number of its port.

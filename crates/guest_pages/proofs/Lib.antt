@@ -1,5 +1,4 @@
 pub mod Blanks
-pub mod Blocks
 pub mod Copying
 pub mod Each
 pub mod Ending

@@ -10,14 +10,12 @@ ghost use Rattle.guest_pages.specs.Made.{Spends, is_made, is_ready};
 ghost use Rattle.guest_pages.specs.Marks.{marked_from, marks_after};
 ghost use Rattle.guest_pages.specs.Words.{pages_at, place_among, read_of, read_reply, served, write_of, write_reply};
 
-mod blocks;
 mod code;
 mod parting;
 mod room;
 
 use crate::blank::Blank;
 use crate::slot::Slot;
-use blocks::{clear_all, clear_blocks, forget, marked_in, note, note_page};
 pub use code::CodePage;
 use guest_memory::{PAGE_SIZE, RAM_START};
 pub use parting::mark_made;
@@ -27,14 +25,12 @@ use std::marker::Model;
 use vm_types::{ActorId, GuestAddr, Op, Reply};
 
 /// The pages in order, which contracts see as the list of their values, and by `flat_of` as the one memory; and how many spare
-/// ones there are, from which pages are made. `owned` is how many are made or spare, which acts don't change. `blocks` has a flag for
-/// 64 pages, which is set where one of them may be marked.
+/// ones there are, from which pages are made. `owned` is how many are made or spare, which acts don't change.
 #[derive(Drop)]
 pub struct PageSet {
     pages: Vec<Slot>,
     spare: Vec<Blank>,
     owned: usize,
-    blocks: Vec<bool>,
 }
 
 impl Model for PageSet {
@@ -46,7 +42,7 @@ impl Model for PageSet {
 
     ghost view = { λ s. record { pages = s.pages.items; spare = length s.spare.items } };
 
-    ghost invariant = { λ s. IsSet s.pages.items (length s.spare.items) s.owned s.blocks.items };
+    ghost invariant = { λ s. IsSet s.pages.items (length s.spare.items) s.owned };
 }
 
 impl PageSet {
@@ -58,7 +54,6 @@ impl PageSet {
         ensures marks { IfOk result (λ set. marks_of set.pages ≡ replicate count false) }
         ensures spare { IfOk result (λ set. set.spare ≡ 0) }
     {
-        let blocks = clear_blocks(alloc, count as usize / 64 + 1)?;
         let mut pages = Vec::with_capacity(alloc, count as usize)?;
         for number in 0..count {
             pages.push(Slot::new(number))?;
@@ -67,7 +62,6 @@ impl PageSet {
             pages,
             spare: Vec::new(alloc),
             owned: 0,
-            blocks,
         })
     }
 
@@ -121,10 +115,7 @@ impl PageSet {
         ensures len { length self.new.pages ≡ length self.old.pages }
         ensures spends { Spends 1 self.old self.new }
     {
-        let page = &mut self.pages[number];
-        let reply = page.act(&mut self.spare, actor, op);
-        note_page(&mut self.blocks, number, page);
-        reply
+        self.pages[number].act(&mut self.spare, actor, op)
     }
 
     // The number of the page that has these bytes, or `None` where none has all of them.
@@ -178,7 +169,6 @@ impl PageSet {
             return false;
         };
         self.pages[number].write_word(&mut self.spare, writer, at, word, width);
-        note(&mut self.blocks, number);
         true
     }
 
@@ -187,7 +177,7 @@ impl PageSet {
         requires { length self.now.pages < 2 ^ 32 }
         ensures { IfOk result (λ numbers. numbers.items ≡ marked_from 0 (marks_of self.now.pages)) }
     {
-        marked_in(alloc, &self.pages, &self.blocks)
+        marked_in(alloc, &self.pages)
     }
 
     /// Takes every mark away.
@@ -196,8 +186,7 @@ impl PageSet {
         ensures memory { flat_of self.new.pages ≡ flat_of self.old.pages }
         ensures marks { marks_of self.new.pages ≡ replicate (length self.old.pages) false }
     {
-        clear_all(&mut self.pages, &self.blocks);
-        forget(&mut self.blocks);
+        clear_all(&mut self.pages);
     }
 
     // Puts a piece into one page.
@@ -279,5 +268,26 @@ impl PageSet {
         ensures harts { IfSome result (λ slots. length slots.now ≡ 32) }
     {
         self.pages[number].some_reserved()
+    }
+}
+
+fn marked_in(alloc: Global, pages: &[Slot]) -> Result<Vec<u32>, AllocError>
+    requires { length pages.now < 2 ^ 32 }
+    ensures { IfOk result (λ numbers. numbers.items ≡ marked_from 0 (marks_of pages.now)) }
+{
+    let mut numbers = Vec::new(alloc);
+    for number in 0..pages.len() {
+        if pages[number].is_marked() {
+            numbers.push(number as u32)?;
+        }
+    }
+    Ok(numbers)
+}
+
+fn clear_all(pages: &mut [Slot])
+    ensures { pages.new ≡ cleared pages.old }
+{
+    for page in pages.iter_mut() {
+        page.clear_mark();
     }
 }

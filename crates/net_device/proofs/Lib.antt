@@ -1,3 +1,4 @@
+pub mod Headed
 pub mod Keeping
 pub mod Narrow
 pub mod Net

@@ -39,6 +39,7 @@ use Rattle.net_device.specs.declared.kind.Stage.TheVariants as stage
 use Rattle.net_device.specs.Frames.{header, header_size, is_done, is_frame, piece_length, piece_sent, pieces, sending_all, sent_length, taking, with_piece, piece_of}
 use Rattle.net_device.specs.Net.{Net, answered_by, emptied, has_room, is_link_call, kept_of, limited, net, passes_by, received, served_by}
 use Rattle.net_device.specs.Work.{AnyNet, AtWork, IsSizedData, IsSmallStage, IsSmallText, IsSmallWork, SizedWork, hand_of, is_sized_work, is_work, sent, sized_hand, written}
+use Rattle.net_device.proofs.Headed.{headed_more}
 use Rattle.net_device.proofs.Working.{ends, fill_led, piece_led, read_led, reads, sends, taken, takes}
 use Rattle.net_device.proofs.Keeping.{Has, Takes, answering_stays, at_stage, has_clear, has_of, no_take, no_third, serving_stays, takes_of, test_of_has, test_of_takes}
 
@@ -69,7 +70,7 @@ header_bytes =
     (All-cons IsByte 1 (0 ∷ []) (omega arith) (All-cons IsByte 0 [] (omega arith) (All-nil IsByte)))
 
 no_text : IsSmallText []
-no_text = (omega arith, All-nil IsByte)
+no_text = (omega arith, All-nil IsByte, refl)
 
 -- a frame that is taken isn't long
 frame_short : (size index : ℕ) → is_frame size ≡ true → index < pieces size
@@ -136,6 +137,7 @@ module _ (sized : Bool) (pages : ℕ) where
       (take_by (pieces size - suc index) refl long (λ yes. (
         omega (arith, length-append bytes piece, v.long, long, frame_short size index v.frame v.more),
         All-append IsByte bytes piece (text yes).1 (fit.1 yes),
+        headed_more bytes piece (text yes).2 (omega (arith, v.long)),
       )))
     where
       take_by : (n : ℕ) → pieces size - suc index ≡ n → length piece ≡ piece_length size index → IsText (bytes ++ piece)
@@ -174,7 +176,7 @@ module _ (sized : Bool) (pages : ℕ) where
       → Goes net (sized_hand sized) (is_sized_work sized) (IsSizedData sized) sized answering_of work.Answer pages Any (answered_by reply e)
   answer e (Frame size) fine fit =
       subst (λ (n : ℕ). Answers (taking n size 0 header) (emptied e)) (no_less (pieces size))
-      (take_on (pieces size - 0) size 0 header (emptied e) refl fit (emptied_fine e fine) (λ yes. (omega arith, header_bytes))
+      (take_on (pieces size - 0) size 0 header (emptied e) refl fit (emptied_fine e fine) (λ yes. (omega arith, header_bytes, refl))
       (λ some. omega arith))
   answer e reply fine fit = inr (record { own = e; result = false; fine = fine; is = tt; left = refl })
 

@@ -1,5 +1,6 @@
 -- A frame on its way between a link and a chain (VIRTIO 1.2, 5.1.6).
-use Rattle.std.specs.Prelude.{ℕ, zero, suc, ◌+◌, ◌-◌, ◌*◌, ◌/◌, ◌==◌, nat_le, ◌&&◌, min, Bool, true, false, if◌then◌else◌, Option, Some, None, List, [], ◌∷◌, ◌++◌, drop}
+use Rattle.std.specs.Prelude.{ℕ, zero, suc, ◌+◌, ◌-◌, ◌*◌, ◌/◌, ◌==◌, nat_le, nat_lt, ◌&&◌, min, Bool, true, false, if◌then◌else◌, Option, Some, None, List, [], ◌∷◌, ◌++◌, drop, length, take}
+use Rattle.std.specs.Str.{bytes_eq}
 use Rattle.vm_types.specs.declared.op.Op.TheVariants.{Read, Out}
 use Rattle.vm_types.specs.declared.op.OutOp.TheVariants.{LinkPart, LinkSend, LinkEnd}
 use Rattle.vm_types.specs.declared.reply.Reply.{Reply}
@@ -20,6 +21,14 @@ header_size = 12
 -- an Ethernet frame without its check sequence: at least a header, and at most 1,500 bytes behind it
 abbrev pub is_frame : ℕ → Bool
 is_frame length = nat_le 14 length && nat_le length 1514
+
+-- a text for the driver, as far as it came: no byte, or the header and what came of a frame
+abbrev pub is_headed : List ℕ → Bool
+is_headed bytes = if nat_lt (length bytes) header_size then length bytes == 0 else bytes_eq (take header_size bytes) header
+
+-- and what came is no longer than a frame
+abbrev pub is_text : List ℕ → Bool
+is_text bytes = nat_le (length bytes) 1526 && is_headed bytes
 
 -- ---- from the link
 

@@ -20,7 +20,7 @@ use Rattle.queue_device.specs.Resuming.{HasKept}
 use Rattle.queue_device.specs.Service.{Queued}
 use Rattle.net_device.specs.declared.kind.Stage.{Stage}
 use Rattle.net_device.specs.declared.kind.Stage.TheVariants as stage
-use Rattle.net_device.specs.Frames.{header_size, is_frame, piece_length, piece_sent, pieces, sending_all, taking}
+use Rattle.net_device.specs.Frames.{header_size, is_frame, is_headed, piece_length, piece_sent, pieces, sending_all, taking}
 use Rattle.net_device.specs.Net.{Net, net, received}
 
 -- where its work is, with the frame that is taken from the link or written to the driver, behind its header
@@ -132,9 +132,9 @@ AnyNet e = Unit {0}
 
 -- ---- the widths of what it keeps
 
--- a header and a frame, in bytes
+-- the header and a frame, in bytes
 abbrev pub IsSmallText : List ℕ → Type 0
-IsSmallText bytes = (length bytes ≤ 1526) × All IsByte bytes
+IsSmallText bytes = (length bytes ≤ 1526) × All IsByte bytes × (is_headed bytes ≡ true)
 
 -- what is still passed over has 64 bits, and a piece that is sent is one of bytes
 abbrev pub IsSmallStage : Stage → Type 0

@@ -13,7 +13,7 @@ mod new_net;
 mod text;
 mod valid;
 
-pub use device::NetDevice;
+pub use device::{NetDevice, new_net_device};
 pub use kind::{NetChange, NetKind, Stage};
 pub use law::{net_goes_on, net_kept, net_sequences, net_stays};
 pub use new_net::{NewNet, configuration};

@@ -1,9 +1,12 @@
 // A header and a frame behind it.
-ghost use Rattle.std.specs.Prelude.{◌≡◌, ◌≤◌, ◌+◌, ◌++◌, [], length, take, drop, nat_le, if◌then◌else◌, Some, None};
-ghost use Rattle.net_device.specs.Frames.{header};
+ghost use Rattle.std.specs.Prelude.{◌≡◌, ◌<◌, ◌≤◌, ◌+◌, ◌++◌, [], length, take, drop, true, if◌then◌else◌, Some, None};
+ghost use Rattle.net_device.specs.Frames.{header, is_headed, is_text};
 
 use std::marker::Model;
 use vm_types::Piece;
+
+/// The header of a frame for the driver (VIRTIO 1.2, 5.1.6.1).
+const HEADER: [u8; 12] = [0, 0, 0, 0, 0, 0, 0, 0, 0, 0, 1, 0];
 
 /// The header of 12 bytes and as much of a frame of at most 1,514 bytes as has come; or no byte.
 #[derive(Drop)]
@@ -13,13 +16,25 @@ pub struct Text {
 }
 
 impl Model for Text {
-    ghost use Rattle.std.specs.Prelude.{◌≡◌, ◌≤◌, List, ℕ, take, length};
+    ghost use Rattle.std.specs.Prelude.{◌≡◌, ◌≤◌, List, ℕ, take, length, true};
+    ghost use Rattle.net_device.specs.Frames.{is_headed};
 
     ghost Value = { List ℕ };
 
     ghost view = { λ t. take t.len t.bytes };
 
-    ghost invariant = { λ t. (t.len ≤ 1526) × (length t.bytes ≡ 1526) };
+    ghost invariant = { λ t. (t.len ≤ 1526) × (length t.bytes ≡ 1526) × (is_headed (take t.len t.bytes) ≡ true) };
+}
+
+// Whether these bytes begin with the header, if there are any.
+fn is_headed(bytes: &[u8]) -> bool
+    ensures { result ≡ is_headed bytes.now }
+{
+    if bytes.len() < 12 {
+        bytes.len() == 0
+    } else {
+        bytes[..12] == HEADER[..]
+    }
 }
 
 impl Text {
@@ -33,11 +48,12 @@ impl Text {
         }
     }
 
-    /// These bytes. None where there are more than 1,526.
+    /// These bytes. None where there are more than 1,526, or some that don't begin with the header.
+    #[tactic(auto, using(crate::proofs::Headed::headed_same))]
     pub fn copy_of(bytes: &[u8]) -> Option<Text>
-        ensures { result ≡ (if nat_le (length bytes.now) 1526 then Some bytes.now else None) }
+        ensures { result ≡ (if is_text bytes.now then Some bytes.now else None) }
     {
-        if bytes.len() > 1526 {
+        if bytes.len() > 1526 || !is_headed(bytes) {
             return None;
         }
         let mut text = [0; 1526];
@@ -51,6 +67,7 @@ impl Text {
     pub fn as_slice(&self) -> &[u8]
         ensures bytes { result.now ≡ self.now }
         ensures most { length result.now ≤ 1526 }
+        ensures text { is_text result.now ≡ true }
     {
         &self.bytes[..self.len]
     }
@@ -73,10 +90,11 @@ impl Text {
     }
 
     /// The header alone.
+    #[tactic(auto, using(crate::proofs::Headed::headed_begun))]
     pub(crate) fn begin(&mut self)
         ensures { self.new ≡ header }
     {
-        self.bytes[..12].copy_from_slice(&[0, 0, 0, 0, 0, 0, 0, 0, 0, 0, 1, 0]);
+        self.bytes[..12].copy_from_slice(&HEADER);
         self.len = 12;
     }
 
@@ -87,9 +105,10 @@ impl Text {
         self.len
     }
 
-    /// One more piece at the end.
+    /// One more piece at the end, behind the header.
     pub(crate) fn append(&mut self, piece: &Piece)
-        requires { length self.old + length piece.now ≤ 1526 }
+        requires begun { 0 < length self.old }
+        requires most { length self.old + length piece.now ≤ 1526 }
         ensures { self.new ≡ self.old ++ piece.now }
     {
         let piece = piece.as_slice();

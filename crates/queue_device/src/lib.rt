@@ -3,7 +3,7 @@
 //! `specs/Lanes.antt` has the queues with where the device stands in each, `specs/Service.antt` what a kind has of its own,
 //! and `specs/Rounds.antt` the groups of acts: a look at the port, a question to the host object, a chain of a queue, guest
 //! time where the kind has a limit, a wait. `specs/Confined.antt` says what such a device may do. No kind is named.
-//! `QueueRounds` is such a device in code, over what a `Kind` does.
+//! `QueueRounds` is such a device in code, over what a `Kind` does, and `QueueDevice` one that is in a state that it may be in.
 #![tactic(auto)]
 
 mod again;
@@ -19,6 +19,7 @@ mod law;
 mod opening;
 mod phase;
 mod spill;
+mod standing;
 mod valid;
 
 pub use again::{collect_again, parts_again};
@@ -29,4 +30,5 @@ pub use lanes::{Due, Lane, Rounds, Which, is_running};
 pub use law::{queue_goes_on, queue_kept, queue_one, queue_stays, queue_writes};
 pub use phase::{InHand, Phase, Work};
 pub use spill::Spill;
+pub use standing::QueueDevice;
 pub use valid::is_state;

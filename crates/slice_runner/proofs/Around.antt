@@ -7,8 +7,11 @@ use Rattle.guest_pages.specs.Pages.{marks_of}
 use Rattle.vm_world.specs.declared.world.parting.WorldParts.{WorldParts}
 use Rattle.vm_world.specs.Worlds.{IsSameButSpare, IsWorld, WorldValue}
 use Rattle.vm_world.proofs.Events.{same_world}
+use Rattle.slice_runner.specs.declared.room.Room.{Room}
 use Rattle.slice_runner.specs.declared.stop.Stopped.{Stopped}
+use Rattle.slice_runner.specs.Blanks.{pool_of}
 use Rattle.slice_runner.specs.Opened.{AreBackParts, world_of}
+use Rattle.slice_runner.specs.Room.{HasRoom}
 use Rattle.slice_runner.specs.Slices.{IsSerial, IsThere, MarksFollow, written_by}
 use Rattle.slice_runner.specs.Stops.{AreStopped}
 
@@ -20,6 +23,20 @@ module _ (old made : WorldValue) (p : WorldParts) (n : ℕ) (same : IsSameButSpa
   -- as many harts
   pub harts_around : length p.harts.items ≡ length old.harts
   harts_around = ap (λ (w : WorldValue). length w.harts) taken ∙ ap (λ (w : WorldValue). length w.harts) same
+
+  -- room for the world is room for its parts
+  pub room_around : {Q : Type 0} (pages ports harts passes steps blanks : ℕ) (room : Room Q) → pages ≡ length old.pages → ports ≡ length old.ports
+      → harts ≡ length old.harts → blanks ≡ pool_of steps old.pages → HasRoom pages ports harts passes steps blanks room
+      → HasRoom (length p.pages.items) (length p.ports.items) (length p.harts.items) passes steps (pool_of steps p.pages.items) room
+  room_around {Q} pages ports harts passes steps blanks room pages_many ports_many harts_many blanks_are has =
+      let pages_are : p.pages.items ≡ old.pages = ap (λ (w : WorldValue). w.pages) taken ∙ ap (λ (w : WorldValue). w.pages) same in
+      let ports_are : p.ports.items ≡ old.ports = ap (λ (w : WorldValue). w.ports) taken ∙ ap (λ (w : WorldValue). w.ports) same in
+      let harts_are : p.harts.items ≡ old.harts = ap (λ (w : WorldValue). w.harts) taken ∙ ap (λ (w : WorldValue). w.harts) same in
+      subst (λ (k : ℕ). HasRoom k (length p.ports.items) (length p.harts.items) passes steps (pool_of steps p.pages.items) room)
+      (pages_many ∙ ap length (sym pages_are))
+      (subst (λ (k : ℕ). HasRoom pages k (length p.harts.items) passes steps (pool_of steps p.pages.items) room) (ports_many ∙ ap length (sym ports_are))
+      (subst (λ (k : ℕ). HasRoom pages ports k passes steps (pool_of steps p.pages.items) room) (harts_many ∙ ap length (sym harts_are))
+      (subst (λ (k : ℕ). HasRoom pages ports harts passes steps k room) (blanks_are ∙ ap (pool_of steps) (sym pages_are)) has)))
 
   pub there_around : (es : List Entry) → All (λ (e : Entry). IsThere (length (world_of p).harts) e.actor) es
       → All (λ (e : Entry). IsThere (length old.harts) e.actor) es

@@ -110,7 +110,7 @@ pub record GoesOn {Q : Type 0} (tally : Q → Tally) (layout : Layout) (made : L
   pub awake : 1 ≤ length old.work.journal.items → want ≡ Op.Idle → ⊥
   pub unfull : old.full ≡ false
   pub low : old.work.clock < 2 ^ 63
-  pub fed : CanAct made layout want (length old.pool.items)
+  pub fed : CanAct made layout want (length new.pool.items)
 
 -- the entry is written down, and is the actor's last
 pub record WritesDown {Q : Type 0} (e : Entry) (old new : Track Q) : Type 0 where

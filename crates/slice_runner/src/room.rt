@@ -96,10 +96,10 @@ impl<Q: Drop> WorkRoom<Q> {
         n: usize,
         pools: Vec<Vec<Blank>>,
     ) -> Result<WorkRoom<Q>, AllocError>
-        requires { harts ≤ 32 }
+        requires harts { harts ≤ 32 }
         requires pools { length pools.items ≡ harts + 1 }
-        ensures room { (blanks : ℕ) → All (λ pool. length pool.items ≡ blanks) pools.items →
-            IfOk result (λ room. ForWork harts passes blanks room) }
+        ensures room { IfOk result (λ room. (blanks : ℕ) → All (λ pool. length pool.items ≡ blanks) pools.items →
+            ForWork harts passes blanks room) }
         ensures entries { IfOk result (λ room. All (λ journal. n ≤ vec_capacity journal) room.blank.items) }
     {
         let workers = Vec::with_capacity(alloc, harts)?;
@@ -140,10 +140,10 @@ impl<Q: Drop> CrewRoom<Q> {
         n: u32,
         pools: Vec<Vec<Blank>>,
     ) -> Result<CrewRoom<Q>, AllocError>
-        requires { harts ≤ 32 }
+        requires harts { harts ≤ 32 }
         requires pools { length pools.items ≡ harts + 1 }
-        ensures { (blanks : ℕ) → All (λ pool. length pool.items ≡ blanks) pools.items →
-            IfOk result (λ room. ForCrew harts passes n blanks room) }
+        ensures { IfOk result (λ room. (blanks : ℕ) → All (λ pool. length pool.items ≡ blanks) pools.items →
+            ForCrew harts passes n blanks room) }
     {
         let work = WorkRoom::new(alloc, harts, passes, n as usize, pools)?;
         let used = Vec::with_capacity(alloc, passes)?;
@@ -172,8 +172,8 @@ impl<Q: Drop> Room<Q> {
         requires ports { layout.ports ≤ 255 }
         requires harts { harts ≤ 32 }
         requires pools { length pools.items ≡ harts + 1 }
-        ensures { (blanks : ℕ) → All (λ pool. length pool.items ≡ blanks) pools.items →
-            IfOk result (λ room. HasRoom layout.pages layout.ports harts passes n blanks room) }
+        ensures { IfOk result (λ room. (blanks : ℕ) → All (λ pool. length pool.items ≡ blanks) pools.items →
+            HasRoom layout.pages layout.ports harts passes n blanks room) }
     {
         let places = PlaceRoom::new(alloc, layout.pages as usize, usize::from(layout.ports))?;
         let crew = CrewRoom::new(alloc, harts, passes, n, pools)?;

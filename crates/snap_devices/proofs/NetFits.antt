@@ -1,6 +1,6 @@
 -- A network device in the fields of a file: what is kept of it fits, where each number of it has its width.
 use Rattle.std.proofs.Common.{◌≡◌, ◌≤◌, ◌<◌, ◌^◌, nat_le, ℕ, true, refl, arith, List, length, length-drop, drop}
-use Rattle.std.proofs.lemmas.Bool.{and_parts, le-leb, leb-true}
+use Rattle.std.proofs.lemmas.Bool.{and_from, and_parts, le-leb, leb-true}
 use Rattle.file_format.proofs.Fitting.{fits8, fits64, fits_bytes}
 use Rattle.dev_core.specs.Pieces.{room, share}
 use Rattle.rate_gate.specs.Gate.{Buckets}
@@ -16,6 +16,7 @@ use Rattle.queue_device.specs.Sizes.{IsNarrowPhase}
 use Rattle.queue_device.proofs.KeptStays.{TestParts}
 use Rattle.net_device.specs.declared.kind.Stage.{Stage}
 use Rattle.net_device.specs.declared.kind.Stage.TheVariants as at
+use Rattle.net_device.specs.Frames.{is_headed}
 use Rattle.net_device.specs.Net as nets
 use Rattle.net_device.specs.States.{is_state}
 use Rattle.net_device.specs.Work.{IsSizedData, IsSmallText, IsSmallWork, Kept, is_at, is_work}
@@ -30,8 +31,10 @@ use Rattle.snap_devices.proofs.RoundsFits.{facts, place_fits, rounds_fit}
 text_fits : (bytes : List ℕ) → IsSmallText bytes → text.Fits bytes
 unfolding text
 text_fits bytes small =
-    let most = small.0 in
-    (fits_bytes bytes (omega (arith, most)), le-leb (length bytes) 1526 most)
+    let most = small.0 in (
+      fits_bytes bytes (omega (arith, most)),
+      and_from (nat_le (length bytes) 1526) (is_headed bytes) (le-leb (length bytes) 1526 most) small.2,
+    )
 
 piece_fits : (bytes : List ℕ) → length bytes ≤ 64 → piece.Fits bytes
 unfolding piece

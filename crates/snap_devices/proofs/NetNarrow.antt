@@ -1,7 +1,7 @@
 -- What is read of a network device has its widths.
-use Rattle.std.proofs.Common.{◌≤◌, ℕ, true, List, length}
+use Rattle.std.proofs.Common.{◌≤◌, ℕ, nat_le, true, List, length}
 use Rattle.std.specs.List.{All}
-use Rattle.std.proofs.lemmas.Bool.{leb-true}
+use Rattle.std.proofs.lemmas.Bool.{and_parts, leb-true}
 use Rattle.le_fields.specs.Fields.{IsByte}
 use Rattle.file_format.proofs.Fitting.{of64}
 use Rattle.rate_gate.specs.Gate.{Buckets}
@@ -9,6 +9,7 @@ use Rattle.rate_gate.specs.Small.{AreSmallLimits}
 use Rattle.queue_device.specs.declared.device.QueueRounds.{QueueRounds}
 use Rattle.net_device.specs.declared.kind.Stage.{Stage}
 use Rattle.net_device.specs.declared.kind.Stage.TheVariants as at
+use Rattle.net_device.specs.Frames.{is_headed}
 use Rattle.net_device.specs.Work.{IsSmallStage, IsSmallText, Kept}
 use Rattle.guest_devices.specs.declared.device.Device.TheVariants as kept
 use Rattle.guest_devices.specs.Narrow.{IsNarrowKept}
@@ -20,7 +21,9 @@ use Rattle.snap_devices.proofs.RoundsNarrow.{AreAllHeld, place_narrow, rounds_na
 
 text_narrow : (bytes : List ℕ) → text.Fits bytes → All IsByte bytes → IsSmallText bytes
 unfolding text
-text_narrow bytes own all = (leb-true (length bytes) 1526 own.1, all)
+text_narrow bytes own all =
+    let both = and_parts (nat_le (length bytes) 1526) (is_headed bytes) own.1 in
+    (leb-true (length bytes) 1526 both.0, all, both.1)
 
 piece_most : (bytes : List ℕ) → piece.Fits bytes → length bytes ≤ 64
 unfolding piece

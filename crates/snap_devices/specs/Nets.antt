@@ -8,6 +8,7 @@ use Rattle.vq_split.specs.declared.queue.Part.{Part}
 use Rattle.queue_device.specs.declared.device.QueueRounds.{QueueRounds}
 use Rattle.net_device.specs.declared.kind.Stage.{Stage}
 use Rattle.net_device.specs.declared.kind.Stage.TheVariants as at
+use Rattle.net_device.specs.Frames.{is_text}
 use Rattle.net_device.specs.States.{is_state}
 use Rattle.net_device.specs.Work.{Kept, has_stage}
 use Rattle.snap_devices.specs.Limits.{limits}
@@ -17,10 +18,7 @@ use Rattle.snap_devices.specs.Rounds.{rounds}
 
 -- ---- bytes
 
--- a header and a frame: at most 1,526 bytes
-abbrev pub is_text : List ℕ → Bool
-is_text bytes = nat_le (length bytes) 1526
-
+-- no byte, or the header and a frame, as far as it came
 unfoldable pub text : Format (List ℕ)
 text = passing is_text byte_list
 

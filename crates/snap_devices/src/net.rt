@@ -1,7 +1,8 @@
 // A network device.
-ghost use Rattle.std.specs.Prelude.{◌≡◌, ◌≤◌, OnOk, length};
+ghost use Rattle.std.specs.Prelude.{◌≡◌, ◌≤◌, OnOk, length, true};
 ghost use Rattle.file_format.specs.Ends.{TakesAll, whole};
 ghost use Rattle.file_format.specs.Reading.{Takes};
+ghost use Rattle.net_device.specs.Frames.{is_text};
 ghost use Rattle.snap_devices.specs.Nets.{kind, net, net_fields, piece, stage, stage_code, text};
 
 use crate::limits::{read_limits, write_limits};
@@ -17,7 +18,7 @@ use vm_types::{ByteList, Piece};
 
 #[tactic(auto, unfolding(crate::specs::Nets::text, file_format::specs::Kinds::byte_list))]
 fn write_text(bytes: &[u8], out: &mut Vec<u8>) -> Result<(), AllocError>
-    requires { length bytes.now ≤ 1526 }
+    requires { is_text bytes.now ≡ true }
     ensures fits { OnOk result (text.Fits bytes.now) }
     ensures bytes { OnOk result (out.new.items ≡ text.puts bytes.now out.old.items) }
 {

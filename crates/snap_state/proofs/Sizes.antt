@@ -1,6 +1,6 @@
 -- How many bytes each part of a state file has at most.
 use Rattle.std.proofs.Common.{ℕ, zero, suc, arith, replicate}
-use Rattle.std.proofs.lemmas.Bool.{leb-true}
+use Rattle.std.proofs.lemmas.Bool.{and_parts, leb-true}
 use Rattle.file_format.specs.Kinds.{byte, number64, optional}
 use Rattle.snap_devices.specs.Balloons as balloons
 use Rattle.snap_devices.specs.Limits as limits
@@ -242,7 +242,7 @@ device_place_within = then_within byte_within device_places_within
 
 text_within : Within nets.text.reads (λ _. 1530)
 unfolding nets.text
-text_within = passing_within _ (λ _. 1530) (λ v is. omega (arith, leb-true _ _ is)) bytes_within
+text_within = passing_within _ (λ _. 1530) (λ v is. omega (arith, leb-true _ _ (and_parts _ _ is).0)) bytes_within
 
 piece_within : Within nets.piece.reads (λ _. 68)
 unfolding nets.piece

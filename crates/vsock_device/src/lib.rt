@@ -23,7 +23,7 @@ mod packet;
 pub use connection::{Connection, Standing};
 pub use connections::Connections;
 pub use data::{InHand, Vsock, VsockChange};
-pub use device::VsockDevice;
+pub use device::{VsockDevice, new_vsock_device};
 pub use fetching::Fetching;
 pub use kind::{Stage, VsockKind};
 pub use law::{vsock_does, vsock_goes_on, vsock_kept, vsock_stays};

@@ -1,7 +1,7 @@
 // The acts of a block device over a small memory.
 use crate::chains::memory::{AVAILABLE, HEADER, PAGES, PLACE, STATUS, USED, put, read};
 use crate::chains::setting::Setting;
-use block_device::{Block, BlockData};
+use block_device::{BlockData, new_block_device};
 use std::alloc::AllocError;
 use vm_types::{Actor, BoardOp, Op, OutOp, Piece, PortLook, PortOp, QueueShown, Reply};
 
@@ -124,7 +124,7 @@ pub fn add_acts(text: &mut String, memory: &mut [u8], setting: &Setting) -> Resu
         is_read_only: setting.is_read_only,
         limits: setting.limits(),
     };
-    let mut block = Block::new(0, PAGES, facts);
+    let mut block = new_block_device(0, PAGES, facts);
     let mut outside = Outside {
         is_kicked: true,
         status: 15,

@@ -4,4 +4,4 @@ use Rattle.guest_devices.specs.Kinds.{Balloon}
 use Rattle.guest_devices.proofs.balloon.new_balloon.Goals as goal
 
 pub returns : goal.returns
-returns c = λ what same. ap (left_of Balloon) c.new.ensures ∙ ap (new_left c.args.port c.args.pages) (sym same)
+returns c = λ what same. ap (left_of Balloon) c.new_balloon_device.ensures ∙ ap (new_left c.args.port c.args.pages) (sym same)

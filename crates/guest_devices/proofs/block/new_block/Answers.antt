@@ -9,7 +9,7 @@ use Rattle.guest_devices.proofs.block.new_block.Goals as goal
 pub returns : goal.returns
 returns c = λ what same.
     let drive = c.args.drive.now in
-    ap (left_of Block) c.new.ensures
+    ap (left_of Block) c.new_block_device.ensures
     ∙ ap (λ (limits : Buckets). left_of Block (Ends (of_block.new_block c.args.port c.args.pages (record {
       sectors = drive.sectors;
       drive_id = drive.drive_id;

@@ -4,4 +4,4 @@ use Rattle.guest_devices.specs.Kinds.{Vsock}
 use Rattle.guest_devices.proofs.vsock.new_vsock.Goals as goal
 
 pub returns : goal.returns
-returns c = λ what same. ap (left_of Vsock) c.new.ensures ∙ ap (new_left c.args.port c.args.pages) (sym same)
+returns c = λ what same. ap (left_of Vsock) c.new_vsock_device.ensures ∙ ap (new_left c.args.port c.args.pages) (sym same)

@@ -8,5 +8,5 @@ use Rattle.guest_devices.proofs.vsock.reset_vsock.Goals as goal
 
 pub returns : goal.returns
 returns c = λ it after before behind.
-    reset_is Vsock (vsock_left c.args.vsock.now) (vsock_left c.reset.new.self) Reset c.reset.ensures refl it after (ap device_left before)
+    reset_is Vsock (vsock_left c.args.vsock.now) (vsock_left c.change.new.self) Reset c.change.ensures refl it after (ap device_left before)
     (ap device_left behind)

@@ -1,4 +1,5 @@
-use Rattle.std.proofs.Common.{map, length, refl, sym, ap, ◌∙◌, subst, arith}
+use Rattle.std.proofs.Common.{◌≡◌, map, length, refl, sym, ap, ◌∙◌, subst, arith, rules}
+use Rattle.guest_pages.specs.Made.{made_of}
 use Rattle.std.proofs.lemmas.List.{length-map}
 use Rattle.machine_places.specs.Laid.{AreLaid, place_of}
 use Rattle.machine_places.proofs.Named.{as_many}
@@ -33,17 +34,23 @@ invariant_of-result-clause-counted c =
 pub invariant_of-result-clause-few : goal.invariant_of-result-clause-few
 invariant_of-result-clause-few c = omega (arith, ap (λ l. l.pages) c.size_of-actors.ensures.layout, c.requires.few.0)
 
+pub mark_made-requires-clause-room : goal.mark_made-requires-clause-room
+mark_made-requires-clause-room c =
+    let same : c.deref.result.now ≡ c.args.parts.pages.items = search rules in omega (arith, ap length same, c.requires.room.for_made)
+
 pub returns-in-Ok-clause-opened : goal.returns-in-Ok-clause-opened
 returns-in-Ok-clause-opened c =
     let made = c.in-Ok.ensures in
+    let same : c.deref.result.now ≡ c.args.parts.pages.items = search rules in
+    let marks = c.mark_made.ensures ∙ ap made_of same in
     let w = world_of c.args.parts in
     let view = made.view in
     record {
-      seat = bare_first _ _ _ _ w made.seat view c.size_of-actors.ensures.layout c.mark_made.ensures c.place_all.ensures.laid;
+      seat = bare_first _ _ _ _ w made.seat view c.size_of-actors.ensures.layout marks c.place_all.ensures.laid;
       all = ap (λ v. v.parts) view ∙ sym made.whole;
       parts = ap (λ v. v.parts) view ∙ c.size_of-actors.ensures.parts;
       layout = c.size_of-actors.ensures.layout;
-      made = c.mark_made.ensures;
+      made = marks;
       laid = subst (λ r. AreLaid w.pages w.ports w.board r.opens) (sym (ap (λ v. v.round) view)) c.place_all.ensures.laid;
       timer = refl;
       harts = refl;
@@ -56,4 +63,5 @@ returns-in-Ok-clause-opened c =
 
 pub invariant_of-result-clause-marked : goal.invariant_of-result-clause-marked
 invariant_of-result-clause-marked c =
-    omega (arith, ap length c.mark_made.ensures, length-map c.args.parts.pages.items (λ p. p.made), ap (λ l. l.pages) c.size_of-actors.ensures.layout)
+    let same : c.deref.result.now ≡ c.args.parts.pages.items = search rules in
+    omega (arith, ap length (c.mark_made.ensures ∙ ap made_of same), length-map c.args.parts.pages.items (λ p. p.made), ap (λ l. l.pages) c.size_of-actors.ensures.layout)

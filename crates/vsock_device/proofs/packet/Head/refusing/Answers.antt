@@ -1,0 +1,5 @@
+use Rattle.std.proofs.Common.{rules}
+use Rattle.vsock_device.proofs.packet.Head.refusing.Goals as goal
+
+pub returns : goal.returns
+returns c = search rules
