@@ -3,15 +3,11 @@
 // The hart polls for the answers, or it waits for the disk's interrupt where the highest bit of what it has for rounds is set.
 #include "virtio.c"
 #include "block.h"
+#include "lines.h"
 #include "measure.h"
 
 #define LENGTH 16384
 #define WAITS (1UL << 63)
-
-// The board's lines that are pending, of which a 1 clears one, and those that hart 0 takes.
-#define PENDING_LINES ((volatile u32 *)0x02000000)
-#define ENABLED_LINES ((volatile u32 *)0x02000100)
-#define EXTERNAL_INTERRUPT (1UL << 9)
 
 static volatile struct virtq queue;
 static volatile struct virtio_blk_req req __attribute__((aligned(16)));
@@ -81,8 +77,7 @@ void run(u64 hart)
     u64 places = read_config(0) / (LENGTH / SECTOR_SIZE);
     if (places == 0)
         give_up_at("too few sectors: ", read_config(0));
-    *ENABLED_LINES = 0xffff;
-    csr_set(sie, EXTERNAL_INTERRUPT);
+    take_lines();
     for (u64 round = 0; round < (rounds & ~WAITS); round++)
         write_and_read(round, round % places * (LENGTH / SECTOR_SIZE));
 }

@@ -42,7 +42,9 @@ enum virtio_mmio {
 #define VIRTIO_F_VERSION_1 (1UL << 32)
 
 // How many descriptors a queue has, which is a split one (2.7).
+#ifndef QUEUE_SIZE
 #define QUEUE_SIZE 4
+#endif
 
 #define VIRTQ_DESC_F_NEXT 1
 #define VIRTQ_DESC_F_WRITE 2

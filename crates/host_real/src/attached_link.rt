@@ -4,7 +4,7 @@ ghost use Rattle.vm_host.specs.Framing.{AreFrameLengths};
 
 use crate::bell::Bell;
 use crate::dialling::Pause;
-use crate::link_peer::LinkPeer;
+use crate::link_peer::{LONGEST, LinkPeer};
 use link_frames::piece_of;
 use std::alloc::Global;
 use std::io::ErrorKind;
@@ -15,9 +15,6 @@ use vm_types::{Piece, TextList};
 
 /// A peer that isn't there is dialled no more often, in milliseconds.
 const DIAL_PAUSE: u64 = 100;
-
-/// No frame is longer.
-const LONGEST: usize = 1_514;
 
 /// Its peer stays until the stream ends or fails. Then what had come of a frame is dropped, and the peer is dialled anew.
 #[derive(Drop)]

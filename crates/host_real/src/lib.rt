@@ -27,6 +27,7 @@ mod system_clock;
 mod trace_file;
 mod trace_lines;
 mod unsent;
+mod vsock_end;
 mod vsock_peer;
 mod vsock_peers;
 mod vsock_sockets;

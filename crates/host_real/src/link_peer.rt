@@ -15,6 +15,9 @@ use std::net::Net;
 use std::os::unix::io::AsRawFd;
 use std::os::unix::net::UnixStream;
 
+/// No frame is longer.
+pub(crate) const LONGEST: usize = 1_514;
+
 /// One call reads so many parts of the stream at most, so that frames that are dropped hold nobody up.
 const MOST_READS: u32 = 256;
 
@@ -66,7 +69,7 @@ impl LinkPeer {
     fn read(&mut self) -> io::Result<Option<Fed>>
         ensures { IfOk result (λ came. IfSome came IsGiven) }
     {
-        let mut bytes = [0; 1514];
+        let mut bytes = [0; LONGEST];
         let wanted = self.reader.wanted();
         let count = match tries::read_some(&mut self.stream, &mut bytes[..wanted]) {
             Ok(0) => return Err(io::Error::from(ErrorKind::UnexpectedEof)),

@@ -96,6 +96,14 @@ impl<'a, R: rt::Files<File = File> + rt::Clock + Net + AllocGlobal> SocketFile<'
     }
 }
 
+/// Whether an accept failed since nobody comes, or who came has given up meanwhile.
+pub(crate) fn is_nobody(e: &io::Error) -> bool {
+    matches!(
+        e.kind(),
+        ErrorKind::WouldBlock | ErrorKind::ConnectionAborted
+    )
+}
+
 // A folder's lock, which ends when what is answered is let go. What is no folder isn't opened, since that may wait.
 fn lock_folder<R: rt::Files<File = File> + rt::Clock>(
     rt: &R,

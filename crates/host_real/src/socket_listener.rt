@@ -4,7 +4,7 @@ ghost use Rattle.std.specs.Prelude.{◌≡◌, Err, IfErr};
 use crate::bell::Bell;
 use crate::looking::NO_DESCRIPTOR;
 use crate::socket_conn::SocketConn;
-use crate::socket_file::{LOCK_TRIES, SocketFile};
+use crate::socket_file::{LOCK_TRIES, SocketFile, is_nobody};
 use outside_real::counted::counted;
 use serve_host::{Accepted, Listener};
 use std::fs::File;
@@ -167,10 +167,7 @@ pub fn as_accepted<'a, R: rt::Clock>(
 
 // Whether the failure says nothing against the listener.
 fn passes(e: &io::Error) -> bool {
-    matches!(
-        e.kind(),
-        ErrorKind::WouldBlock | ErrorKind::ConnectionAborted
-    ) || is_want(e)
+    is_nobody(e) || is_want(e)
 }
 
 // Whether there was no room for one more connection.

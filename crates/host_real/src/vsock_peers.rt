@@ -51,10 +51,9 @@ impl VsockPeers {
 
     /// One more, on whose stream nothing waits. Its number is answered.
     pub(crate) fn add(&mut self, bell: &Bell, stream: UnixStream) -> io::Result<u32> {
-        self.peers.reserve(1)?;
         let number = self.take_number();
         let peer = VsockPeer::new(self.alloc, bell, number, stream);
-        self.peers.push_reserved(peer);
+        self.peers.push(peer)?;
         Ok(number)
     }
 
@@ -131,8 +130,8 @@ impl VsockPeers {
         ensures { IfSome result IsEvent }
     {
         let event = self.peers.get_mut(place)?.read()?;
-        if let HostEvent::Ended { connection } = event {
-            self.remove(connection);
+        if let HostEvent::Ended { connection } = &event {
+            self.remove(*connection);
         }
         Some(event)
     }

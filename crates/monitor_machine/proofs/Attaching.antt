@@ -1,21 +1,17 @@
 -- Objects of a kind are attached one after another.
-use Rattle.std.proofs.Common.{◌≡◌, ◌≢◌, ℕ, ◌<◌, ◌+◌, nat_lt, Bool, true, false, refl, sym, ◌∙◌, subst, arith, List, Option, Some, None}
+use Rattle.std.proofs.Common.{◌≡◌, ◌≢◌, ℕ, ◌<◌, ◌+◌, nat_lt, Bool, true, false, refl, sym, ◌∙◌, subst, arith, Option, Some, None}
 use Rattle.std.proofs.lemmas.Bool.{ltb-true, ltb-false}
 use Rattle.vm_outside.specs.Known.{Health, Tells}
 use Rattle.vm_host.specs.declared.attached.Attached.{Attached}
 use Rattle.vm_host.specs.Devices.{IsOf}
-use Rattle.vm_host.specs.Framing.{LinkKnown}
-use Rattle.vm_host.specs.Hosting.{VsockKnown}
-use Rattle.vm_host.specs.Storing.{DiskKnown}
 use Rattle.port_table.specs.Window.{most_ports}
 use Rattle.vm_config.specs.declared.config.Config.{Config}
 use Rattle.flat_guest.specs.Guest.{Guest}
 use Rattle.flat_machine.specs.Machine.{Machine}
-use Rattle.vm_world.specs.Worlds.{WorldValue}
 use Rattle.monitor_machine.specs.declared.machine.LiveMachine.{LiveMachine}
 use Rattle.monitor_machine.specs.Kinds.{disks, links, vsocks}
 use Rattle.monitor_machine.specs.Objects.{AreNamed, AreNamedBy, Named, ObjectKind, Uncalled}
-use Rattle.monitor_machine.specs.State.{IsGuestBy, IsLive}
+use Rattle.monitor_machine.specs.State.{IsLive}
 
 -- what all that is beside the names has: it is as it was where nothing was done, and where it was so twice
 pub record BesideLaw {K : Type 0} (kind : ObjectKind K) : Type 0 where
@@ -92,14 +88,3 @@ pub all_attached : {K : Type 0} (kind : ObjectKind K) (live : LiveMachine) (star
     → ((k : ℕ) → k < most_ports → Named kind start live.config k now) → (m : Machine) → IsLive live m → AreNamed kind start m now
 all_attached kind live start now all m is =
     subst (λ (c : Config). AreNamedBy kind start m.guest c now) is.config_is (by_guest kind start live.config now all m.guest)
-
-no_guest : {K : Type 0} (kind : ObjectKind K) (start : Health) (config : Config) (now : K) (world : Option WorldValue)
-    (guest : Option Guest) → world ≡ None → IsGuestBy world guest → AreNamedBy kind start guest config now
-no_guest kind start config now world None none is = tt
-no_guest kind start config now None (Some g) none is = absurd is
-no_guest kind start config now (Some w) (Some g) none is = cc
-
--- a machine without a guest
-pub none_attached : {K : Type 0} (kind : ObjectKind K) (live : LiveMachine) (start : Health) (now : K) → live.guest ≡ None
-    → (m : Machine) → IsLive live m → AreNamed kind start m now
-none_attached kind live start now none m is = no_guest kind start m.config now live.guest m.guest none is.guest_is

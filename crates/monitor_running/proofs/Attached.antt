@@ -14,6 +14,7 @@ use Rattle.monitor_machine.specs.Kinds.{DevicesKnown, disks, links, vsocks}
 use Rattle.flat_machine.specs.Machine.{Machine}
 use Rattle.monitor_running.specs.Asked.{ActorHasOwn, HasOwn, HaveOwn, Healths, healths}
 use Rattle.monitor_running.specs.Devices.{AsksDevices, DevicesRest, IsDevices, IsHeard, WereAsked}
+use Rattle.monitor_running.specs.Happened.{HasPort, HavePorts}
 use Rattle.monitor_running.specs.Waiting.{makers, turns}
 use Rattle.monitor_running.proofs.Events.{all_other, others_made}
 use Rattle.monitor_running.proofs.KindLaws.{disks_law, links_law, vsocks_law}
@@ -95,13 +96,6 @@ own_since start old m now still has = record {
 }
 
 -- ---- events of devices that have a port, and hear no more of a socket than an act gives
-
-abbrev pub HasPort : ActorId → Type 0
-HasPort (ActorId.Device k) = k < most_ports
-HasPort actor = Unit {0}
-
-abbrev pub HavePorts : List Entry → Type 0
-HavePorts es = AllByRecursion (λ (e : Entry). HasPort e.actor × IsHeard e.actor e.op e.reply) es
 
 pub actor_own : (start : Healths) (config : Config) (actor : ActorId) (known : DevicesKnown) → HasPort actor
     → ((k : ℕ) → k < most_ports → HasOwn start config k known) → ActorHasOwn start config actor known

@@ -20,6 +20,7 @@ use Rattle.flat_machine.specs.Machine.{Machine, running, running_by}
 use Rattle.flat_machine.specs.Run.{Act}
 use Rattle.vm_world.specs.Worlds.{IsWorld, WorldValue}
 use Rattle.slice_runner.specs.Slices.{Leads, event_of, given_of}
+use Rattle.monitor_running.specs.Happened.{HavePorts}
 use Rattle.monitor_running.proofs.Asked.{IsAsking, IsDeviceCall, is_asking}
 use Rattle.device_trace.specs.Acts.{is_disk_call}
 use Rattle.guest_devices.specs.Kinds.{Balloon, Block, Kind, Net, Vsock, calls_of}
@@ -38,7 +39,7 @@ use Rattle.monitor_running.specs.Asked.{ActorHasOwn, DevicesAnswered, HasOwn, He
 use Rattle.monitor_running.specs.Devices.{AsksDevices, IsHeard, IsShort, WereAsked}
 use Rattle.monitor_running.specs.Items.{drained_world}
 use Rattle.monitor_running.specs.Reached.{AreOwn, NoLineage, Seen, Start, gives_lineage, told_at}
-use Rattle.monitor_running.proofs.Attached.{HavePorts, StillTell, actor_own, own_asked, own_kept, tell_on}
+use Rattle.monitor_running.proofs.Attached.{StillTell, actor_own, own_asked, own_kept, tell_on}
 use Rattle.monitor_running.proofs.Events.{rests_same, rests_uncalled}
 use Rattle.monitor_running.proofs.Joins.{none_given, one_given, uncalled_none}
 use Rattle.flat_trace.specs.Showing.{HasEvent, Out, Run, TraceStep, items_of, said, shown}
@@ -190,7 +191,7 @@ module _ (m : Machine) (g mid : Guest) (e : Entry) (sound : IsSound g) (runs : r
         given_again e act (is_asking g (event_of e) e mid act sound step is) is heard in
         subst (λ (o : Option Guest). ItemAsks start (item.Reply e.actor (host_reply e.reply)) m.config o old now) (sym runs)
         (own, Op.Out act, e.reply, subst (λ (o : Op). Wants g e.actor o) is step.want, reads, asks)
-    asks_by op is asks = rests_uncalled old now asks
+    asks_by op is asks = rests_uncalled old now (record { disk = asks.disk; link = asks.link; vsock = asks.vsock })
 
     pub asks : AsksDevices e.op e.actor e.reply old now → ItemAsks start (item_of e) m.config (running m) old now
     asks asked = asks_by e.op refl asked

@@ -271,13 +271,6 @@ went_on Is end old mid now b c d first last = record {
   sink_lasts = lasts_more old.sink.health mid.sink.health now.sink.health first.sink_lasts last.sink_lasts;
 }
 
--- and then memory was wanting
-pub went_wanting : {B : Type 0} (Is : B → Machine → Type 0) (old now : Known) (b c d : B) → d ≡ c → Went Is None old b now c
-    → Went Is (Some ran.OutOfMemory) old b now d
-went_wanting Is old now b c d same went =
-    subst (Went Is (Some ran.OutOfMemory) old b now) (sym same)
-    (record { ran = went.ran; fault = tt; trace_lasts = went.trace_lasts; trace_stays = went.trace_stays; sink_lasts = went.sink_lasts })
-
 pub went_nowhere : {B : Type 0} (Is : B → Machine → Type 0) (k : Known) (b : B) → Went Is None k b k b
 went_nowhere Is k b = record {
   ran = λ t s. keeps_same Is (seen k) (seen k) b refl;

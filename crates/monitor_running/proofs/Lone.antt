@@ -18,13 +18,14 @@ use Rattle.slice_runner.specs.Slices.{Leads}
 use Rattle.serve_host.specs.Events.{event_items, item_by, item_of}
 use Rattle.monitor_running.specs.Alone.{HasRun}
 use Rattle.monitor_running.specs.Asked.{HostKnown}
+use Rattle.monitor_running.specs.Happened.{HasHappened, HostGone}
+use Rattle.monitor_running.specs.Objects.{TurnKnown}
 use Rattle.monitor_running.specs.Waiting.{IsAlone, OthersIdle}
 use Rattle.monitor_running.proofs.Asked.{hart_asks}
 use Rattle.monitor_running.proofs.Attached.{ports_hart}
 use Rattle.monitor_running.proofs.Events.{hart_rests, unasked_hart}
 use Rattle.monitor_running.proofs.Going.{step_told}
 use Rattle.monitor_running.proofs.Led.{items_append}
-use Rattle.monitor_running.proofs.Told.{HostGone}
 
 -- ---- an event of a hart is told as a step
 
@@ -66,12 +67,16 @@ own_by k (suc made) (e ∷ es) is =
     (step_actor e.op e.actor e.reply (ActorId.Hart k) parts.0, own_by k made es parts.1)
 
 -- so neither the clock nor an object of a device was asked
-pub steps_gone : (k made : ℕ) (w v : WorldValue) (host : HostKnown) → HasRun k made w v
+steps_gone : (k made : ℕ) (w v : WorldValue) (host : HostKnown) → HasRun k made w v
     → HostGone (steps_of (ActorId.Hart k) made) w v host host
 steps_gone k made w v host run g is =
     let one = run g is in
     let own = own_by k made one.0 one.4 in
     (one.0, one.4, ((one.1, one.2, one.3), hart_rests k host.clock one.0 own, unasked_hart k one.0 host.devices own, ports_hart k one.0 own))
+
+pub steps_happened : (k made : ℕ) (w v : WorldValue) (known : TurnKnown) → HasRun k made w v
+    → HasHappened (steps_of (ActorId.Hart k) made) known w known v
+steps_happened k made w v known run = record { trace = refl; gone = steps_gone k made w v known.host run }
 
 -- ---- runs one behind another
 

@@ -1,5 +1,5 @@
 -- A ready machine stays so by its events and by a drain.
-use Rattle.std.proofs.Common.{◌≡◌, ℕ, Bool, true, false, inl, inr, refl, sym, ap, subst, ◌∙◌, List, [], ◌∷◌, Option, Some}
+use Rattle.std.proofs.Common.{◌≡◌, Bool, true, false, inl, inr, refl, sym, ap, subst, ◌∙◌, List, [], ◌∷◌, Option, Some}
 use Rattle.vm_types.specs.declared.entry.Entry.{Entry}
 use Rattle.flat_guest.specs.Guest.{Guest}
 use Rattle.flat_machine.specs.Machine.{Machine}
@@ -7,16 +7,13 @@ use Rattle.flat_machine.specs.Ready.{IsReadyGuest, Ready}
 use Rattle.flat_machine.proofs.Ready.{event_ready, guest_ready}
 use Rattle.vm_world.specs.Worlds.{IsSameButSpare, IsWorld, WorldValue}
 use Rattle.vm_world.proofs.Events.{same_world}
-use Rattle.vm_host.specs.Telling.{ClockKnown}
-use Rattle.slice_runner.specs.Slices.{IsSerial, Leads, event_of}
+use Rattle.slice_runner.specs.Slices.{Leads, event_of}
 use Rattle.monitor_machine.specs.Live.{Live}
 use Rattle.monitor_machine.specs.Running.{resting_world, running_world}
 use Rattle.monitor_machine.specs.Ready.{IsReadyLive}
 use Rattle.monitor_machine.proofs.Lines.{some_guest}
 use Rattle.monitor_machine.proofs.Standing.{drain_stays}
-use Rattle.monitor_running.specs.Alone.{HasRun}
 use Rattle.monitor_running.specs.Staying.{MayBeDrained, StaysReady}
-use Rattle.monitor_running.specs.Waiting.{HasGone}
 
 -- ---- one after another
 
@@ -68,16 +65,6 @@ stays_led w v led = λ live runs (m, own, ready).
       },
       leads_ready to.0 m there.0 to.1 ready guest moving to.2,
     )
-
-pub stays_serial : (w v : WorldValue) (es : List Entry) → IsSerial w es v → StaysReady w v
-stays_serial w v es serial = stays_led w v (λ g is. let to = serial g is in (es, to.0, to.1, to.2))
-
--- events that time made, and those of one hart
-pub stays_gone : (w v : WorldValue) (es : List Entry) (asked now : ClockKnown) → HasGone es w v asked now → StaysReady w v
-stays_gone w v es asked now gone = stays_led w v (λ g is. let to = (gone g is).0 in (es, to.0, to.1, to.2))
-
-pub stays_run : (hart made : ℕ) (w v : WorldValue) → HasRun hart made w v → StaysReady w v
-stays_run hart made w v ran = stays_led w v (λ g is. let to = ran g is in (to.0, to.1, to.2, to.3))
 
 -- other pages are spare
 pub stays_made : (w v : WorldValue) → IsSameButSpare w v → StaysReady w v

@@ -16,7 +16,6 @@ use Rattle.vm_world.specs.Worlds.{IsSameButSpare, IsWorld, WorldValue}
 use Rattle.vm_world.proofs.Events.{same_world}
 use Rattle.slice_runner.specs.Runs.{HasAnswered}
 use Rattle.slice_runner.specs.Slices.{ClockWasAsked, IsSerial, IsThere, Leads}
-use Rattle.monitor_running.specs.declared.ran.Ran.{Ran}
 use Rattle.monitor_running.specs.declared.ran.Ran.TheVariants as ran
 use Rattle.monitor_running.specs.declared.telling.Untold.{Untold}
 use Rattle.monitor_running.specs.declared.telling.Untold.TheVariants as untold
@@ -29,13 +28,15 @@ use Rattle.monitor_running.specs.Waiting.{HasGone, makers, turns}
 use Rattle.monitor_machine.specs.Kinds.{DevicesKnown}
 use Rattle.monitor_running.specs.Asked.{HasOwn, Healths, HostKnown}
 use Rattle.monitor_running.specs.Devices.{IsDevices, WereAsked}
+use Rattle.monitor_running.specs.Happened.{GoneFrom, HasHappened, HostGone}
+use Rattle.monitor_running.specs.Objects.{TurnKnown, with_clock, with_devices}
 use Rattle.port_table.specs.Window.{most_ports}
 use Rattle.monitor_running.specs.Reached.{Ahead, AreOwn, GetsAhead, IsCut, Keeps, Known, Reached, Seen, Start, known, told_at}
 use Rattle.flat_trace.specs.Showing.{Out}
 use Rattle.flat_guest.specs.Sound.{IsSound}
 use Rattle.monitor_running.proofs.Asked.{answers_same}
 use Rattle.monitor_running.proofs.Sound.{sound_led, world_sound}
-use Rattle.monitor_running.proofs.Attached.{HavePorts, StillTell, own_kept, own_rest, own_was, ports_devices, ports_split, ports_there, ports_turns, tell_on}
+use Rattle.monitor_running.proofs.Attached.{StillTell, own_kept, own_rest, own_was, ports_devices, ports_split, ports_there, ports_turns, tell_on}
 use Rattle.monitor_running.proofs.Events.{asked_split, clock_rests, unasked_there, unasked_turns}
 use Rattle.monitor_running.proofs.Joins.{HostRests, answered_first, answers_append, goes_by, host_same, reached_still, rests, still_own}
 use Rattle.monitor_running.proofs.Led.{acts_items, drain_acts, drain_answered, drain_outs, drain_run, drain_says, drain_shows, drain_told, drain_unlineaged, drained_guest, drained_is, events_answered, events_run, events_unlineaged, guest_own, items_split, leads_split, quiets, quiets_say, quiets_show, still_runs, with_guest}
@@ -43,25 +44,15 @@ use Rattle.monitor_running.proofs.Led.{acts_items, drain_acts, drain_answered, d
 abbrev seen_by : List Item → List ℕ → HostKnown → Seen
 seen_by took taken host = record { took = took; taken = taken; host = host }
 
--- events that lead from this guest to one that the world is, in which the clock and the objects of devices answered; each device has a
--- port, and hears no more of a socket than an act gives
-abbrev pub GoneFrom : Guest → List Entry → WorldValue → HostKnown → HostKnown → Type 0
-GoneFrom g es new asked now =
-    ((h : Guest) × Leads g es h × IsWorld new h) × ClockWasAsked asked.clock es now.clock × WereAsked asked.devices es now.devices
-    × HavePorts es
-
--- there are such from each guest that the world was, and these items tell them
-abbrev pub HostGone : List Item → WorldValue → WorldValue → HostKnown → HostKnown → Type 0
-HostGone its old new asked now =
-    (g : Guest) → IsWorld old g → (es : List Entry) × (event_items es ≡ its) × GoneFrom g es new asked now
-
--- and these are they
+-- these events lead from each guest that the world was
 abbrev pub EventsGone : List Entry → WorldValue → WorldValue → HostKnown → HostKnown → Type 0
 EventsGone es old new asked now = (g : Guest) → IsWorld old g → GoneFrom g es new asked now
 
-events_host : (es : List Entry) (old new : WorldValue) (asked now : HostKnown) → EventsGone es old new asked now
-    → HostGone (event_items es) old new asked now
-events_host es old new asked now gone g is = (es, refl, gone g is)
+host_gone : (es told : List Entry) (old new : WorldValue) (asked mid now : HostKnown) → told ≡ es → now ≡ mid
+    → EventsGone es old new asked mid → HostGone (event_items told) old new asked now
+host_gone es told old new asked mid now same is gone g here =
+    let own : GoneFrom g told new asked mid = subst (λ (l : List Entry). GoneFrom g l new asked mid) (sym same) (gone g here) in
+    (told, refl, subst (λ (h : HostKnown). GoneFrom g told new asked h) (sym is) own)
 
 -- a clock that answered in the events
 pub was_asked : (asked now : ClockKnown) (es : List Entry) (g h : Guest) → IsSound g → ClockWasAsked asked es now
@@ -257,6 +248,23 @@ pub devices_gone : (es : List Entry) (w v : WorldValue) (clock : ClockKnown) (as
 devices_gone es w v clock asked now serial made was g is =
     (serial g is, clock_rests clock es (made g is), was g is, ports_devices es (made g is))
 
+-- so it happened, where the clock alone was asked, or the objects of devices were
+pub clock_happened : (es told : List Entry) (first now : TurnKnown) (w v : WorldValue) → told ≡ es
+    → now ≡ with_clock first now.host.clock → EventsGone es w v first.host (record first.host { clock = now.host.clock })
+    → HasHappened (event_items told) first w now v
+clock_happened es told first now w v same asked gone = record {
+  trace = ap (λ (k : TurnKnown). k.trace) asked;
+  gone = host_gone es told w v first.host (record first.host { clock = now.host.clock }) now.host same (ap (λ (k : TurnKnown). k.host) asked) gone;
+}
+
+pub devices_happened : (es told : List Entry) (first now : TurnKnown) (w v : WorldValue) → told ≡ es
+    → now ≡ with_devices first now.host.devices → EventsGone es w v first.host (record first.host { devices = now.host.devices })
+    → HasHappened (event_items told) first w now v
+devices_happened es told first now w v same asked gone = record {
+  trace = ap (λ (k : TurnKnown). k.trace) asked;
+  gone = host_gone es told w v first.host (record first.host { devices = now.host.devices }) now.host same (ap (λ (k : TurnKnown). k.host) asked) gone;
+}
+
 -- what each device has, all of a guest's have
 own_all : (s : Start) (m : Machine) (g : Guest) (now : Seen) → ((k : ℕ) → k < most_ports → HasOwn (told_at s) m.config k now.host.devices)
     → AreOwn s (with_guest m g) now
@@ -342,16 +350,6 @@ items_stop untold.Trace took took' taken taken' asked now w v u its gone stops =
 items_stop untold.Sink took took' taken taken' asked now w v u its gone stops =
     items_cut took took' taken taken' asked now w v u its gone stops.0 stops.1
 
-pub slice_none : (took : List Item) (taken : List ℕ) (asked now : HostKnown) (w v : WorldValue) → v ≡ w → now ≡ asked
-    → Keeps IsRunning (seen_by took taken asked) w (seen_by took taken now) v
-slice_none took taken asked now w v same unasked s m talk is f r = record {
-  flat = m;
-  is = subst (λ (x : WorldValue). IsRunning x m) (sym same) is;
-  beside = refl;
-  own = subst (λ (k : HostKnown). AreOwn s m (seen_by took taken k)) (sym unasked) f;
-  reached = subst (λ (k : HostKnown). Reached s (seen_by took taken k) m talk) (sym unasked) r;
-}
-
 -- ---- the same, as the ends have it
 
 lasts_same : (told : Health) → objects.Lasts told told
@@ -371,83 +369,35 @@ went_items_told trace traced sink sunk asked mid now w v u its gone went trace_l
   sink_lasts = sink_lasts;
 }
 
-pub went_told : (trace traced : TraceKnown) (sink sunk : SinkKnown) (asked mid now : HostKnown) (w v u : WorldValue)
-    (es told : List Entry) → told ≡ es → EventsGone es w v asked mid
-    → (objects.Tells trace.health → objects.Tells sink.health
-    → HasGoneOn v trace.took (event_items told) sink.taken u traced.took sunk.taken)
-    → objects.Lasts trace.health traced.health → TraceStays trace traced → objects.Lasts sink.health sunk.health → HostRests mid now
-    → Went IsRunning None (known trace sink asked) w (known traced sunk now) u
-went_told trace traced sink sunk asked mid now w v u es told same gone went =
-    went_items_told trace traced sink sunk asked mid now w v u (event_items told)
-    (events_host told w v asked mid (subst (λ (l : List Entry). EventsGone l w v asked mid) (sym same) gone)) went
-
 -- what was not told to its end
 fault_of : (why : Untold) (before now : Known) → (why ≡ untold.Trace → Rose before.trace.health.faults now.trace.health.faults)
     → (why ≡ untold.Sink → Rose before.sink.health.faults now.sink.health.faults) → HasFault (Some (end_by why)) before now
 fault_of untold.Trace before now trace sink = trace refl
 fault_of untold.Sink before now trace sink = sink refl
 
-pub went_items_untold : (end : Ran) (why : Untold) (trace traced : TraceKnown) (sink sunk : SinkKnown) (asked now : HostKnown)
-    (w v u : WorldValue) (its : List Item) → end ≡ end_by why → HostGone its w v asked now
+pub went_items_untold : (why : Untold) (trace traced : TraceKnown) (sink sunk : SinkKnown) (asked now : HostKnown)
+    (w v u : WorldValue) (its : List Item) → HostGone its w v asked now
     → (objects.Tells trace.health → objects.Tells sink.health
     → TellStops why its v trace.took sink.taken u traced.took sunk.taken)
     → (why ≡ untold.Trace → Rose trace.health.faults traced.health.faults)
     → (why ≡ untold.Sink → Rose sink.health.faults sunk.health.faults)
     → objects.Lasts trace.health traced.health → TraceStays trace traced → objects.Lasts sink.health sunk.health
-    → Went IsRunning (Some end) (known trace sink asked) w (known traced sunk now) u
-went_items_untold end why trace traced sink sunk asked now w v u its is gone stops trace_rose sink_rose trace_lasts trace_stays sink_lasts = record {
-  ran = λ t k.
-      subst (λ (r : Ran). RanOn IsRunning (Some r) (seen_by trace.took sink.taken asked) w (seen_by traced.took sunk.taken now) u) (sym is)
-      (items_stop why trace.took traced.took sink.taken sunk.taken asked now w v u its gone (stops t k));
-  fault = subst (λ (r : Ran). HasFault (Some r) (known trace sink asked) (known traced sunk now)) (sym is)
-      (fault_of why (known trace sink asked) (known traced sunk now) trace_rose sink_rose);
+    → Went IsRunning (Some (end_by why)) (known trace sink asked) w (known traced sunk now) u
+went_items_untold why trace traced sink sunk asked now w v u its gone stops trace_rose sink_rose trace_lasts trace_stays sink_lasts = record {
+  ran = λ t k. items_stop why trace.took traced.took sink.taken sunk.taken asked now w v u its gone (stops t k);
+  fault = fault_of why (known trace sink asked) (known traced sunk now) trace_rose sink_rose;
   trace_lasts = trace_lasts;
   trace_stays = trace_stays;
   sink_lasts = sink_lasts;
 }
 
-pub went_untold : (end : Ran) (why : Untold) (trace traced : TraceKnown) (sink sunk : SinkKnown) (asked now : HostKnown)
-    (w v u : WorldValue) (es told : List Entry) → end ≡ end_by why → told ≡ es → EventsGone es w v asked now
-    → (objects.Tells trace.health → objects.Tells sink.health
-    → TellStops why (event_items told) v trace.took sink.taken u traced.took sunk.taken)
-    → (why ≡ untold.Trace → Rose trace.health.faults traced.health.faults)
-    → (why ≡ untold.Sink → Rose sink.health.faults sunk.health.faults)
-    → objects.Lasts trace.health traced.health → TraceStays trace traced → objects.Lasts sink.health sunk.health
-    → Went IsRunning (Some end) (known trace sink asked) w (known traced sunk now) u
-went_untold end why trace traced sink sunk asked now w v u es told is same gone =
-    let own : EventsGone told w v asked now = subst (λ (l : List Entry). EventsGone l w v asked now) (sym same) gone in
-    went_items_untold end why trace traced sink sunk asked now w v u (event_items told) is (events_host told w v asked now own)
-
--- no slice, and no object of a device was asked
-pub went_failed : (trace : TraceKnown) (sink : SinkKnown) (asked now : HostKnown) (w v : WorldValue) → now.devices ≡ asked.devices → v ≡ w → now.clock ≡ asked.clock
-    → Went IsRunning (Some ran.OutOfMemory) (known trace sink asked) w (known trace sink now) v
-went_failed trace sink asked now w v devices world clock = record {
-  ran = λ t k. slice_none trace.took sink.taken asked now w v world (λ j. record { clock = clock j; devices = devices j });
+-- memory was wanting; pages may have been made spare before
+pub went_unmade : (k : Known) (w v : WorldValue) → IsSameButSpare w v → Went IsRunning (Some ran.OutOfMemory) k w k v
+went_unmade k w v same = record {
+  ran = λ t s start m talk is f r.
+      record { flat = m; is = (is.0, is.1, same_world w v is.0 same is.2); beside = refl; own = f; reached = r };
   fault = tt;
-  trace_lasts = lasts_same trace.health;
+  trace_lasts = lasts_same k.trace.health;
   trace_stays = λ tells. refl;
-  sink_lasts = lasts_same sink.health;
+  sink_lasts = lasts_same k.sink.health;
 }
-
--- a slice that wasn't made, before which pages were made spare
-pub went_unmade : (trace : TraceKnown) (sink : SinkKnown) (asked now : HostKnown) (w v : WorldValue) → now.devices ≡ asked.devices
-    → IsSameButSpare w v → now.clock ≡ asked.clock
-    → Went IsRunning (Some ran.OutOfMemory) (known trace sink asked) w (known trace sink now) v
-went_unmade trace sink asked now w v devices same clock = record {
-  ran = λ t k s m talk is f r.
-      let unasked : now ≡ asked = λ j. record { clock = clock j; devices = devices j } in record {
-        flat = m;
-        is = (is.0, is.1, same_world w v is.0 same is.2);
-        beside = refl;
-        own = subst (λ (k : HostKnown). AreOwn s m (seen_by trace.took sink.taken k)) (sym unasked) f;
-        reached = subst (λ (k : HostKnown). Reached s (seen_by trace.took sink.taken k) m talk) (sym unasked) r;
-      };
-  fault = tt;
-  trace_lasts = lasts_same trace.health;
-  trace_stays = λ tells. refl;
-  sink_lasts = lasts_same sink.health;
-}
-
-pub unclosed_untold : (end : Ran) (why : Untold) → end ≡ end_by why → Some end ≡ Some ran.Closed → ⊥
-unclosed_untold end untold.Trace is closed = cc
-unclosed_untold end untold.Sink is closed = cc

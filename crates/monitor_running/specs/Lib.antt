@@ -1,7 +1,9 @@
 pub mod Alone
 pub mod Asked
 pub mod Devices
+pub mod Happened
 pub mod Items
+pub mod Lasting
 pub mod Objects
 pub mod Paced
 pub mod Pacing

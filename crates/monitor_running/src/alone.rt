@@ -12,7 +12,7 @@ ghost use Rattle.monitor_running.specs.Waiting.{IsAlone, OthersIdle};
 use crate::gating::looks_open;
 use crate::objects::TurnObjects;
 use crate::ran::Ran;
-use crate::telling::{end_by, tell_steps};
+use crate::telling::tell_steps;
 use crate::waiting::{pass_round, waits};
 use crate::working::device_works;
 use guest_memory::HART_LIMIT;
@@ -146,7 +146,7 @@ fn run_hart<Q, G: Gate<Pass = Q>>(
     made
 }
 
-/// A burst of this hart: its events, which are told, and then a drain.
+/// A burst of this hart, unless it waits: its events, which are told, and then a drain.
 pub fn run_burst<Q, W: TurnObjects, G: Gate<Pass = Q>, K: Sink>(
     alloc: Global,
     world: &mut World,
@@ -162,16 +162,16 @@ pub fn run_burst<Q, W: TurnObjects, G: Gate<Pass = Q>, K: Sink>(
         (known_with (W.known with.old) (K.known sink.old)) world.old passes.old.items
         (known_with (W.known with.new) (K.known sink.new)) world.new passes.new.items }
 {
+    let hart = turn.hart;
+    if waits(world, hart) {
+        return None;
+    }
     let Ok(()) = world.reserve(alloc, EVENTS_AT_ONCE) else {
         return Some(Ran::OutOfMemory);
     };
-    let hart = turn.hart;
     let made = run_hart(alloc, world, *turn, gate, passes);
     turn.made = turn.made.saturating_add(made);
-    if let Err(why) = tell_steps(ActorId::Hart(hart), made, world, with, sink) {
-        return Some(end_by(why));
-    }
-    None
+    tell_steps(ActorId::Hart(hart), made, world, with, sink)
 }
 
 /// A turn of one hart. Before it two events of the timer and of each other hart are made, and where another one waits no more after

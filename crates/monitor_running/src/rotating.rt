@@ -7,7 +7,7 @@ use crate::alone::{MOST_ALONE, Turn, run_burst};
 use crate::objects::TurnObjects;
 use crate::ran::Ran;
 use crate::steering::Steering;
-use crate::waiting::{pass_round, waits};
+use crate::waiting::pass_round;
 use guest_memory::HART_LIMIT;
 use pause_gate::Gate;
 use std::alloc::Global;
@@ -21,28 +21,6 @@ fn most_each(world: &World, steps: u32) -> u32
 {
     let harts = world.hart_count() as u32;
     steps.min(MOST_ALONE / harts.max(1))
-}
-
-// A burst of the hart whose turn it is, unless it waits.
-fn run_unless_waits<Q, W: TurnObjects, G: Gate<Pass = Q>, K: Sink>(
-    alloc: Global,
-    world: &mut World,
-    with: &mut W,
-    gate: &G,
-    passes: &mut Vec<Q>,
-    turn: &mut Turn,
-    sink: &mut K,
-) -> Option<Ran>
-    requires some { 0 < length passes.old.items }
-    requires serve { All (G.serves gate.now) passes.old.items }
-    ensures { IsTurn (G.serves gate.now) G.tally result
-        (known_with (W.known with.old) (K.known sink.old)) world.old passes.old.items
-        (known_with (W.known with.new) (K.known sink.new)) world.new passes.new.items }
-{
-    if waits(world, turn.hart) {
-        return None;
-    }
-    run_burst(alloc, world, with, gate, passes, turn, sink)
 }
 
 // A burst of each hart that doesn't wait, in order.
@@ -65,7 +43,7 @@ fn run_bursts<Q, W: TurnObjects, G: Gate<Pass = Q>, K: Sink>(
     let harts = world.hart_count();
     for number in 0..harts {
         turn.hart = number as u8;
-        if let Some(end) = run_unless_waits(alloc, world, with, gate, passes, turn, sink) {
+        if let Some(end) = run_burst(alloc, world, with, gate, passes, turn, sink) {
             return Some(end);
         }
     }

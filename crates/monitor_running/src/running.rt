@@ -24,7 +24,7 @@ use crate::pacing::Pace;
 use crate::ran::Ran;
 use crate::rotating::run_in_rotation;
 use crate::steering::Steering;
-use crate::telling::{end_by, tell_slice};
+use crate::telling::tell_slice;
 use crate::waiting::{all_wait, pass_round, time_left};
 use crate::working::device_works;
 use guest_memory::HART_LIMIT;
@@ -127,14 +127,12 @@ fn run_guest<
     let Ok(slice) = slice_by(rt, alloc, world, with, gate, passes, each) else {
         return Some(Ran::OutOfMemory);
     };
-    if let Err(why) = tell_slice(slice.events.as_slice(), world, with, sink) {
-        return Some(end_by(why));
-    }
+    let end = tell_slice(slice.events.as_slice(), world, with, sink);
     let ended = world.board().now();
     steering
         .pace
         .told_slice(slice.events.len() as u64, began, ended);
-    None
+    end
 }
 
 // So many events of each device that is there.
@@ -190,10 +188,7 @@ fn act<W: TurnObjects, K: Sink>(
     let Ok(events) = devices_by(alloc, world, with, pace, each) else {
         return Some(Ran::OutOfMemory);
     };
-    if let Err(why) = tell_slice(events.as_slice(), world, with, sink) {
-        return Some(end_by(why));
-    }
-    None
+    tell_slice(events.as_slice(), world, with, sink)
 }
 
 // The clock rests, where every hart waits still and no device has something to do, until the next timer interrupt is due at most, and

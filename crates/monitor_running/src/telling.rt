@@ -1,13 +1,16 @@
 // Events told to a trace, and the console to a sink.
-ghost use Rattle.std.specs.Prelude.{◌≡◌, IfErr};
-ghost use Rattle.serve_host.specs.Tracing.{TraceStays};
-ghost use Rattle.vm_outside.specs.Known.{Lasts, Tells};
-ghost use Rattle.vm_types.specs.Causes.{Rose};
-ghost use Rattle.monitor_running.specs.declared.telling.Untold.TheVariants as untold;
+ghost use Rattle.std.specs.Prelude.{◌≡◌, MatchResult, None, Some};
+ghost use Rattle.serve_host.specs.Events.{event_items};
+ghost use Rattle.serve_host.specs.Tracing.{steps_of};
+ghost use Rattle.vm_outside.specs.Known.{Tells};
+ghost use Rattle.vm_world.specs.Worlds.{WorldValue};
+ghost use Rattle.monitor_running.specs.Happened.{HasHappened};
 ghost use Rattle.monitor_running.specs.Items.{Drains, MayDrain, TellsSlice, TellsSteps};
-ghost use Rattle.monitor_running.specs.Objects.{with_trace};
+ghost use Rattle.monitor_running.specs.Lasting.{TellingLasts};
+ghost use Rattle.monitor_running.specs.Objects.{TurnKnown, known_with};
 ghost use Rattle.monitor_running.specs.Ran.{end_by};
 ghost use Rattle.monitor_running.specs.Staying.{MayBeDrained};
+ghost use Rattle.monitor_running.specs.Turned.{IsTurnPart};
 
 use crate::objects::TurnObjects;
 use crate::ran::Ran;
@@ -18,15 +21,15 @@ use vm_outside::{Sink, write_all};
 use vm_types::{ActorId, Entry};
 use vm_world::World;
 
-/// What was not told to its end.
+// What was not told to its end.
 #[derive(Clone, Copy, Drop)]
-pub enum Untold {
+enum Untold {
     Trace,
     Sink,
 }
 
-/// The end for which something was not told.
-pub fn end_by(why: Untold) -> Ran
+// The end for which something was not told.
+fn end_by(why: Untold) -> Ran
     ensures { result ≡ end_by why }
 {
     match why {
@@ -40,14 +43,7 @@ fn drain<T: Trace, K: Sink>(guest: &mut World, trace: &mut T, sink: &mut K) -> R
     ensures drains { Tells (T.known trace.old).health → Tells (K.known sink.old).health →
         Drains result guest.old (T.known trace.old).took (K.known sink.old).taken
         guest.new (T.known trace.new).took (K.known sink.new).taken }
-    ensures world { MayBeDrained guest.old guest.new }
-    ensures trace_cause { IfErr result (λ why. why ≡ untold.Trace →
-        Rose (T.known trace.old).health.faults (T.known trace.new).health.faults) }
-    ensures sink_cause { IfErr result (λ why. why ≡ untold.Sink →
-        Rose (K.known sink.old).health.faults (K.known sink.new).health.faults) }
-    ensures trace_lasts { Lasts (T.known trace.old).health (T.known trace.new).health }
-    ensures trace_stays { TraceStays (T.known trace.old) (T.known trace.new) }
-    ensures sink_lasts { Lasts (K.known sink.old).health (K.known sink.new).health }
+    ensures lasts { TellingLasts result guest.old (T.known trace.old) (K.known sink.old) guest.new (T.known trace.new) (K.known sink.new) }
 {
     if guest.console().is_empty() {
         return Ok(());
@@ -73,14 +69,7 @@ fn drain_if_ready<T: Trace, K: Sink>(
     ensures drains { Tells (T.known trace.old).health → Tells (K.known sink.old).health →
         MayDrain result guest.old (T.known trace.old).took (K.known sink.old).taken
         guest.new (T.known trace.new).took (K.known sink.new).taken }
-    ensures world { MayBeDrained guest.old guest.new }
-    ensures trace_cause { IfErr result (λ why. why ≡ untold.Trace →
-        Rose (T.known trace.old).health.faults (T.known trace.new).health.faults) }
-    ensures sink_cause { IfErr result (λ why. why ≡ untold.Sink →
-        Rose (K.known sink.old).health.faults (K.known sink.new).health.faults) }
-    ensures trace_lasts { Lasts (T.known trace.old).health (T.known trace.new).health }
-    ensures trace_stays { TraceStays (T.known trace.old) (T.known trace.new) }
-    ensures sink_lasts { Lasts (K.known sink.old).health (K.known sink.new).health }
+    ensures lasts { TellingLasts result guest.old (T.known trace.old) (K.known sink.old) guest.new (T.known trace.new) (K.known sink.new) }
 {
     if !sink.ready() && !guest.is_off() {
         return Ok(());
@@ -98,14 +87,7 @@ fn slice_to<T: Trace, K: Sink>(
     ensures told { Tells (T.known trace.old).health → Tells (K.known sink.old).health →
         TellsSlice result events.now guest.old (T.known trace.old).took (K.known sink.old).taken
         guest.new (T.known trace.new).took (K.known sink.new).taken }
-    ensures world { MayBeDrained guest.old guest.new }
-    ensures trace_cause { IfErr result (λ why. why ≡ untold.Trace →
-        Rose (T.known trace.old).health.faults (T.known trace.new).health.faults) }
-    ensures sink_cause { IfErr result (λ why. why ≡ untold.Sink →
-        Rose (K.known sink.old).health.faults (K.known sink.new).health.faults) }
-    ensures trace_lasts { Lasts (T.known trace.old).health (T.known trace.new).health }
-    ensures trace_stays { TraceStays (T.known trace.old) (T.known trace.new) }
-    ensures sink_lasts { Lasts (K.known sink.old).health (K.known sink.new).health }
+    ensures lasts { TellingLasts result guest.old (T.known trace.old) (K.known sink.old) guest.new (T.known trace.new) (K.known sink.new) }
 {
     let Ok(()) = trace.add_events(events) else {
         return Err(Untold::Trace);
@@ -124,14 +106,7 @@ fn steps_to<T: Trace, K: Sink>(
     ensures told { Tells (T.known trace.old).health → Tells (K.known sink.old).health →
         TellsSteps result actor count guest.old (T.known trace.old).took (K.known sink.old).taken
         guest.new (T.known trace.new).took (K.known sink.new).taken }
-    ensures world { MayBeDrained guest.old guest.new }
-    ensures trace_cause { IfErr result (λ why. why ≡ untold.Trace →
-        Rose (T.known trace.old).health.faults (T.known trace.new).health.faults) }
-    ensures sink_cause { IfErr result (λ why. why ≡ untold.Sink →
-        Rose (K.known sink.old).health.faults (K.known sink.new).health.faults) }
-    ensures trace_lasts { Lasts (T.known trace.old).health (T.known trace.new).health }
-    ensures trace_stays { TraceStays (T.known trace.old) (T.known trace.new) }
-    ensures sink_lasts { Lasts (K.known sink.old).health (K.known sink.new).health }
+    ensures lasts { TellingLasts result guest.old (T.known trace.old) (K.known sink.old) guest.new (T.known trace.new) (K.known sink.new) }
 {
     let Ok(()) = trace.add_steps(actor, count) else {
         return Err(Untold::Trace);
@@ -139,27 +114,29 @@ fn steps_to<T: Trace, K: Sink>(
     drain_if_ready(guest, trace, sink)
 }
 
-/// Tells the trace the events of a slice, and then drains the console, or leaves that for later (`drain_if_ready`).
+// Why turns end, where something was not told to its end.
+fn end_of(told: Result<(), Untold>) -> Option<Ran>
+    ensures { MatchResult told (λ done. result ≡ None) (λ why. result ≡ Some (end_by why)) }
+{
+    match told {
+        Ok(()) => None,
+        Err(why) => Some(end_by(why)),
+    }
+}
+
+/// Tells the trace events that were made, and then drains the console, or leaves that for later (`drain_if_ready`). With what happened
+/// before, it is a part of a turn.
 pub fn tell_slice<W: TurnObjects, K: Sink>(
     events: &[Entry],
     guest: &mut World,
     with: &mut W,
     sink: &mut K,
-) -> Result<(), Untold>
-    ensures told { Tells (W.known with.old).trace.health → Tells (K.known sink.old).health →
-        TellsSlice result events.now guest.old (W.known with.old).trace.took (K.known sink.old).taken
-        guest.new (W.known with.new).trace.took (K.known sink.new).taken }
+) -> Option<Ran>
+    ensures part { (first : TurnKnown) (w : WorldValue) → HasHappened (event_items events.now) first w (W.known with.old) guest.old →
+        IsTurnPart result (known_with first (K.known sink.old)) w (known_with (W.known with.new) (K.known sink.new)) guest.new }
     ensures world { MayBeDrained guest.old guest.new }
-    ensures trace_cause { IfErr result (λ why. why ≡ untold.Trace →
-        Rose (W.known with.old).trace.health.faults (W.known with.new).trace.health.faults) }
-    ensures sink_cause { IfErr result (λ why. why ≡ untold.Sink →
-        Rose (K.known sink.old).health.faults (K.known sink.new).health.faults) }
-    ensures trace_lasts { Lasts (W.known with.old).trace.health (W.known with.new).trace.health }
-    ensures trace_stays { TraceStays (W.known with.old).trace (W.known with.new).trace }
-    ensures sink_lasts { Lasts (K.known sink.old).health (K.known sink.new).health }
-    ensures beside { W.known with.new ≡ with_trace (W.known with.old) (W.known with.new).trace }
 {
-    slice_to(events, guest, with.trace(), sink)
+    end_of(slice_to(events, guest, with.trace(), sink))
 }
 
 /// Tells the trace so many steps of an actor, and then drains the console as above. No item is made for them.
@@ -169,19 +146,10 @@ pub fn tell_steps<W: TurnObjects, K: Sink>(
     guest: &mut World,
     with: &mut W,
     sink: &mut K,
-) -> Result<(), Untold>
-    ensures told { Tells (W.known with.old).trace.health → Tells (K.known sink.old).health →
-        TellsSteps result actor count guest.old (W.known with.old).trace.took (K.known sink.old).taken
-        guest.new (W.known with.new).trace.took (K.known sink.new).taken }
+) -> Option<Ran>
+    ensures part { (first : TurnKnown) (w : WorldValue) → HasHappened (steps_of actor count) first w (W.known with.old) guest.old →
+        IsTurnPart result (known_with first (K.known sink.old)) w (known_with (W.known with.new) (K.known sink.new)) guest.new }
     ensures world { MayBeDrained guest.old guest.new }
-    ensures trace_cause { IfErr result (λ why. why ≡ untold.Trace →
-        Rose (W.known with.old).trace.health.faults (W.known with.new).trace.health.faults) }
-    ensures sink_cause { IfErr result (λ why. why ≡ untold.Sink →
-        Rose (K.known sink.old).health.faults (K.known sink.new).health.faults) }
-    ensures trace_lasts { Lasts (W.known with.old).trace.health (W.known with.new).trace.health }
-    ensures trace_stays { TraceStays (W.known with.old).trace (W.known with.new).trace }
-    ensures sink_lasts { Lasts (K.known sink.old).health (K.known sink.new).health }
-    ensures beside { W.known with.new ≡ with_trace (W.known with.old) (W.known with.new).trace }
 {
-    steps_to(actor, count, guest, with.trace(), sink)
+    end_of(steps_to(actor, count, guest, with.trace(), sink))
 }

@@ -31,7 +31,7 @@ ghost use Rattle.monitor_running.specs.Turned.{IsTurnPart};
 
 use crate::objects::TurnObjects;
 use crate::ran::Ran;
-use crate::telling::{end_by, tell_slice};
+use crate::telling::tell_slice;
 use guest_memory::HART_LIMIT;
 use line_board::Board;
 use monitor_machine::LiveMachine;
@@ -244,8 +244,5 @@ pub fn pass_round<W: TurnObjects, K: Sink>(
     let Ok(events) = pass_by(alloc, world, but, with) else {
         return Some(Ran::OutOfMemory);
     };
-    if let Err(why) = tell_slice(events.as_slice(), world, with, sink) {
-        return Some(end_by(why));
-    }
-    None
+    tell_slice(events.as_slice(), world, with, sink)
 }

@@ -5,9 +5,16 @@ use Rattle.vm_host.specs.Hosting.{VsockKnown}
 use Rattle.vm_host.specs.Storing.{DiskKnown}
 use Rattle.flat_machine.specs.Machine.{Machine}
 use Rattle.monitor_machine.specs.Kinds.{DevicesKnown, disks, links, vsocks}
-use Rattle.monitor_machine.specs.Objects.{AreNamed, Uncalled}
+use Rattle.monitor_machine.specs.Objects.{AreNamed, ObjectKind, Uncalled}
 use Rattle.monitor_running.specs.Asked.{DevicesUncalled, HaveOwn, healths}
 use Rattle.monitor_running.specs.Objects.{TurnKnown, with_devices, with_disk, with_link, with_vsock}
+
+-- an object of a kind was lent, and attached
+pub lent_attached : {K : Type 0} (kind : ObjectKind K) (m : Machine) (given now lent last : K) → lent ≡ given → now ≡ last
+    → AreNamed kind (kind.health lent) m last → AreNamed kind (kind.health given) m now
+lent_attached {K} kind m given now lent last from back has =
+    subst (λ (k : K). AreNamed kind (kind.health given) m k) (sym back)
+    (subst (λ (k : K). AreNamed kind (kind.health k) m last) from has)
 
 -- what is known first, behind the disks, behind the links, and at last
 module _ (a b c d : TurnKnown) (disk : b ≡ with_disk a b.host.devices.disk) (link : c ≡ with_link b c.host.devices.link)

@@ -1,4 +1,4 @@
-// Diffs of version 2 that are bad at one place, merged.
+// Diffs of version 2 and bases that are bad at one place, merged.
 use crate::merges::{files_failing, fill, merge};
 use crate::showing::Shown;
 use outside_mem::MemoryFiles;
@@ -38,33 +38,75 @@ const PLACES: [(u64, u8); 24] = [
     (8_292, 0),
 ];
 
+// The same of the base: its gate, its magic and its version; how many pages it has; its number; the merging byte and the zeros behind it; the
+// identity and the gate of the free slot, and a byte behind them; the slot behind it; the zeros behind all slots; and the end. With two of them
+// nothing but the parent is wrong.
+const BASE_PLACES: [(u64, u8); 18] = [
+    (0, 0),
+    (0, 2),
+    (1, 88),
+    (8, 2),
+    (12, 9),
+    (24, 0),
+    (31, 128),
+    (32, 1),
+    (33, 1),
+    (40, 1),
+    (64, 7),
+    (80, 1),
+    (80, 2),
+    (81, 1),
+    (96, 1),
+    (3_264, 1),
+    (4_095, 1),
+    (36_864, 0),
+];
+
 pub fn show(alloc: Global, shown: &mut Shown) -> Result<(), AllocError> {
-    for (at, byte) in PLACES {
-        shown.text("spoilt: byte ");
-        shown.value(&at);
-        shown.text(" is ");
-        shown.value(&byte);
-        show_merge(alloc, at, &[byte], shown)?;
-    }
+    show_places(alloc, "m5", &PLACES, shown)?;
     shown.text("spoilt: page 3 is zeros");
-    show_merge(alloc, 100, &[0; 4096], shown)?;
+    show_merge(alloc, "m5", 100, &[0; 4096], shown)?;
     shown.text("spoilt: page 5 is zeros");
-    show_merge(alloc, 4_196, &[0; 4096], shown)
+    show_merge(alloc, "m5", 4_196, &[0; 4096], shown)?;
+    shown.text("spoilt: the base\n");
+    show_places(alloc, "m1", &BASE_PLACES, shown)
 }
 
-fn show_merge(alloc: Global, at: u64, bytes: &[u8], shown: &mut Shown) -> Result<(), AllocError> {
+fn show_places(
+    alloc: Global,
+    name: &str,
+    places: &[(u64, u8)],
+    shown: &mut Shown,
+) -> Result<(), AllocError> {
+    for (at, byte) in places {
+        shown.text("spoilt: byte ");
+        shown.value(at);
+        shown.text(" is ");
+        shown.value(byte);
+        show_merge(alloc, name, *at, &[*byte], shown)?;
+    }
+    Ok(())
+}
+
+fn show_merge(
+    alloc: Global,
+    name: &str,
+    at: u64,
+    bytes: &[u8],
+    shown: &mut Shown,
+) -> Result<(), AllocError> {
     let mut files = files_failing(alloc, 999)?;
-    let filled = fill_spoilt(&mut files, at, bytes);
+    let filled = fill_spoilt(&mut files, name, at, bytes);
     let (end, _) = merge(alloc, &mut files, "m1", "m5")?;
     shown.show_two("", &filled, &end);
     Ok(())
 }
 
-fn fill_spoilt(files: &mut MemoryFiles, at: u64, bytes: &[u8]) -> Result<(), Failed> {
+fn fill_spoilt(files: &mut MemoryFiles, name: &str, at: u64, bytes: &[u8]) -> Result<(), Failed> {
     fill(files)?;
     files.make("m5")?;
     files.write_at("m5", 0, &SOUND)?;
     files.write_at("m5", 100, &[0xa3; 4096])?;
     files.write_at("m5", 4_196, &[0xa5; 4096])?;
-    files.write_at("m5", at, bytes)
+    files.write_at(name, at, bytes)
 }

@@ -4,6 +4,7 @@ ghost use Rattle.outside_mem.specs.Devices.{wire_of};
 ghost use Rattle.vm_host.specs.Framing.{AreFrameLengths, Drops, IsPiece, SendsFrame, SendsPart, TakesFrame};
 
 use crate::frame::Frame;
+use link_frames::piece_of;
 use std::alloc::{AllocError, Global};
 use std::collections::VecDeque;
 use std::mem::replace;
@@ -68,12 +69,7 @@ impl MemoryWire {
         ensures count { IfSome result (λ piece. length piece ≡ count) }
         ensures bytes { IfSome result (λ piece. IsPiece (wire_of self.now).taken index count piece) }
     {
-        let frame = self.taken.as_slice();
-        let begin = (index as usize).checked_mul(Piece::MOST)?;
-        if count > Piece::MOST || begin > frame.len() || count > frame.len() - begin {
-            return None;
-        }
-        Some(Piece::from_slice(&frame[begin..begin + count]))
+        piece_of(self.taken.as_slice(), index, count)
     }
 
     // Drops what is being sent.

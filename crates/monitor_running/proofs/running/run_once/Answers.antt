@@ -1,10 +1,9 @@
-use Rattle.std.proofs.Common.{◌∙◌, ap, refl, sym, None, Some}
+use Rattle.std.proofs.Common.{◌∙◌, ap, refl, sym, Some}
 use Rattle.monitor_machine.specs.declared.machine.LiveMachine.{LiveMachine}
 use Rattle.monitor_machine.specs.State.{IsLive}
 use Rattle.monitor_running.specs.Paced.IsMachineTurn.{Off, Rest, World}
-use Rattle.monitor_running.proofs.Events.{rests_same}
-use Rattle.monitor_running.proofs.Lifts.{never_off, nothing_taken, slice_lifted, went_off, went_resting}
-use Rattle.monitor_running.proofs.Lent.{by_clock}
+use Rattle.monitor_running.proofs.Lifts.{never_off, nothing_taken, slice_lifted, went_off}
+use Rattle.monitor_running.proofs.Lent.{clock_rested}
 use Rattle.monitor_running.proofs.Staying.{put_back}
 use Rattle.monitor_running.proofs.running.run_once.Goals as goal
 
@@ -15,12 +14,9 @@ pub returns-in_default-clause-went : goal.returns-in_default-clause-went
 returns-in_default-clause-went g c =
     let all = g.W.TurnObjects.known in
     let rested = c.rest_long.ensures in
-    let now = all c.rest_long.new.with in
     rw c.ready.ensures.same
-    (by_clock IsLive None (all c.args.with.now) now now _ _ _ _ refl rested.beside
-    (went_resting IsLive _ _ _ _ _ _
-    (nothing_taken c.args.machine.now c.take_running.new.self (sym c.in_default.ensures.running) c.in_default.ensures.left)
-    (record { clock = rested.rests; devices = rests_same _ })))
+    (clock_rested IsLive (all c.args.with.now) (all c.rest_long.new.with) _ _ _ rested.beside rested.rests
+    (nothing_taken c.args.machine.now c.take_running.new.self (sym c.in_default.ensures.running) c.in_default.ensures.left))
 
 pub put_guest-requires : goal.put_guest-requires
 put_guest-requires g c =

@@ -1,10 +1,5 @@
 use Rattle.std.proofs.Common.{◌≡◌, arith, false, true, refl, None}
-use Rattle.monitor_running.specs.Ran.{IsRunning}
-use Rattle.monitor_running.proofs.Events.{rests_same}
-use Rattle.monitor_running.proofs.Lifts.{went_resting}
-use Rattle.monitor_running.proofs.Lent.{by_clock}
-use Rattle.monitor_running.proofs.Staying.{stays_same}
-use Rattle.monitor_running.proofs.Turns.{turn_by}
+use Rattle.monitor_running.proofs.Turns.{rested_part, turn_by}
 use Rattle.monitor_running.specs.Paced.IsPaced.{Other}
 use Rattle.monitor_running.proofs.running.run_or_wait.Goals as goal
 
@@ -12,14 +7,8 @@ pub returns-then-not-has_passes-clause-turn : goal.returns-then-not-has_passes-c
 returns-then-not-has_passes-clause-turn g c =
     let all = g.W.TurnObjects.known in
     let rested = c.rest_long.ensures in
-    let now = all c.rest_long.new.with in
-    turn_by _ _ None _ _ _ _ _ c.requires (record {
-      went =
-          by_clock IsRunning None (all c.args.with.now) now now _ _ _ _ refl rested.beside
-          (went_resting IsRunning _ _ _ _ _ _ refl (record { clock = rested.rests; devices = rests_same _ }));
-      ready = stays_same _ _ refl;
-      unclosed = λ is. cc;
-    })
+    turn_by _ _ None _ _ _ _ _ c.requires
+    (rested_part (all c.args.with.now) (all c.rest_long.new.with) _ _ rested.beside rested.rests)
 
 pub returns-then-all_wait-clause-turn : goal.returns-then-all_wait-clause-turn
 returns-then-all_wait-clause-turn g c = turn_by _ _ c.wait.result _ _ _ _ _ c.requires c.wait.ensures

@@ -1,5 +1,7 @@
-use Rattle.std.proofs.Common.{arith}
+use Rattle.std.proofs.Common.{arith, subst}
+use Rattle.vm_config.specs.declared.config.Config.{Config}
 use Rattle.monitor_machine.specs.Kinds.{disks}
+use Rattle.monitor_machine.specs.Objects.{Named}
 use Rattle.monitor_machine.proofs.Attaching.{disks_beside, named_more, uncalled_more, uncalled_none}
 use Rattle.monitor_machine.proofs.machine.LiveMachine.attach_disks.Goals as goal
 
@@ -16,6 +18,9 @@ loop-device-preserved g c =
     let after = c.attach_disk.ensures in record {
       attached =
           named_more disks c.self.inside.config c.loop-device.device (D.known c.args.disk.now) (D.known c.loop-device.disk)
-          (D.known c.attach_disk.new.disk) before.uncalled before.attached after.attached after.others;
+          (D.known c.attach_disk.new.disk) before.uncalled before.attached
+          (subst (λ (config : Config). Named disks (D.known c.loop-device.disk).health config c.loop-device.device (D.known c.attach_disk.new.disk))
+          c.get.ensures.same after.attached)
+          after.others;
       uncalled = uncalled_more disks disks_beside _ _ _ before.uncalled after.uncalled;
     }
