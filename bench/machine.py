@@ -22,10 +22,17 @@ def connected(path):
     raise SystemExit(f"nobody listens on {path}")
 
 
+def more_of(conn):
+    more = conn.recv(65536)
+    if not more:
+        raise ConnectionError("the server has ended the connection")
+    return more
+
+
 def answer(conn, rest=b""):
     """Reads one answer whole."""
     while b"\r\n\r\n" not in rest:
-        rest += conn.recv(65536)
+        rest += more_of(conn)
     head, _, body = rest.partition(b"\r\n\r\n")
     length = 0
     for line in head.split(b"\r\n"):
@@ -33,7 +40,7 @@ def answer(conn, rest=b""):
         if name.lower() == b"content-length":
             length = int(value)
     while len(body) < length:
-        body += conn.recv(65536)
+        body += more_of(conn)
     return head, body
 
 
@@ -49,13 +56,14 @@ def put(conn, path, body):
     ask(conn, "PUT", path, body)
 
 
-def calls(image, mib, drive=None, limits="null", harts=1):
-    """The calls that start a machine, as paths and bodies; with a drive, if one is named, that has these limits."""
+def calls(image, mib, drive=None, harts=1, devices=()):
+    """The calls that start a machine, as paths and bodies; with a drive, if one is named, and with these calls for devices."""
     yield "/boot-source", f'{{"kernel_image_path":"{image}"}}'
     yield "/machine-config", f'{{"vcpu_count":{harts},"mem_size_mib":{mib}}}'
     if drive:
-        fields = f'"drive_id":"root","path_on_host":"{drive}","is_root_device":true,"cache_type":"Writeback","rate_limiter":{limits}'
+        fields = f'"drive_id":"root","path_on_host":"{drive}","is_root_device":true,"cache_type":"Writeback"'
         yield "/drives/root", f"{{{fields}}}"
+    yield from devices
     yield "/actions", '{"action_type":"InstanceStart"}'
 
 

@@ -1,7 +1,8 @@
 // Takes connections from the host over a vsock device (VIRTIO 1.2, 5.10), on the ports of three old services: it gives back what comes
 // (echo, RFC 862), drops it (discard, RFC 863), or sends bytes without an end (character generator, RFC 864). The doubleword at offset 8
 // of its image has a port of the host that it dials in its lower half, or 0. There it sends a line, and gives back what comes; once that
-// connection ends it turns the machine off. With its highest bit it waits for interrupts and not in a loop.
+// connection ends it turns the machine off. With its highest bit it waits for interrupts and not in a loop; with the next one a second hart counts
+// meanwhile.
 enum { RECEIVE, TRANSMIT, EVENTS, QUEUES };
 #define QUEUE_SIZE 16
 #include "queues.c"
@@ -9,6 +10,7 @@ enum { RECEIVE, TRANSMIT, EVENTS, QUEUES };
 #include "measure.h"
 
 #define WAITS (1UL << 63)
+#define COUNTS (1UL << 62)
 
 #define VIRTIO_ID_VSOCK 19
 #define VIRTIO_VSOCK_TYPE_STREAM 1
@@ -142,15 +144,6 @@ static void keep(struct connection *it, const struct packet *packet)
         it->taken = it->came;
 }
 
-// The line that a guest sends where its connection begins is as if it had come: it is given back.
-static void say_hello(struct connection *it)
-{
-    const char *text = "a guest is here\n";
-    for (; *text; text++)
-        ring_of(it)[it->came++ % ROOM] = *text;
-    it->state = OPEN;
-}
-
 static int is_service(u32 port)
 {
     return port == ECHO || port == DISCARD || port == GENERATE;
@@ -170,15 +163,17 @@ static void take(const struct packet *packet)
     it->peer_room = header->buf_alloc;
     it->peer_taken = header->fwd_cnt;
     it->asked_for_credit = 0;
-    if (header->op == RESPONSE && it->state == ASKED)
-        say_hello(it);
-    else if (header->op == RW && header->len <= ROOM - (it->came - it->taken))
+    if (header->op == RESPONSE && it->state == ASKED) {
+        it->state = OPEN;
+        it->due = RW;
+    } else if (header->op == RW && header->len <= ROOM - (it->came - it->taken))
         keep(it, packet);
-    else if (header->op == CREDIT_REQUEST)
-        it->due = CREDIT_UPDATE;
     else if (header->op == RST)
         end_connection(it);
-    else if (header->op != CREDIT_UPDATE && header->op != REQUEST)
+    else if (header->op == CREDIT_REQUEST) {
+        if (it->due == 0)
+            it->due = CREDIT_UPDATE;
+    } else if (header->op != CREDIT_UPDATE && header->op != REQUEST)
         it->due = RST;
 }
 
@@ -233,13 +228,26 @@ static void send_bytes(struct connection *it, u32 len)
     send(it, RW, len);
 }
 
+// The line that the guest sends where it has dialled.
+static void say_hello(struct connection *it)
+{
+    const char *text = "a guest is here\n";
+    u32 len = 0;
+    for (; text[len] != 0; len++)
+        sent->data[len] = text[len];
+    it->sent += len;
+    send(it, RW, len);
+}
+
 // Sends one packet of this connection, if there is one to send.
 static int send_next(struct connection *it)
 {
     enum virtio_vsock_op due = it->due;
     u32 credit = it->peer_room - (it->sent - it->peer_taken), len = waiting(it);
     it->due = 0;
-    if (due != 0) {
+    if (due == RW)
+        say_hello(it);
+    else if (due != 0) {
         send(it, due, 0);
         if (due == RST)
             end_connection(it);
@@ -312,6 +320,15 @@ static void wait(void)
     barrier();
 }
 
+// It never ends.
+void run_second(u64 hart)
+{
+    static volatile u64 count;
+    (void)hart;
+    for (;; count++) {
+    }
+}
+
 void run(u64 hart)
 {
     (void)hart;
@@ -326,6 +343,8 @@ void run(u64 hart)
         offer_at(RECEIVE, slot, &came[slot], sizeof came[slot], VIRTQ_DESC_F_WRITE);
     offer_event();
     begin_anew();
+    if (rounds & COUNTS)
+        start_second(1);
     for (;;)
         if (!is_reset() && !receive() && !send_one())
             wait();

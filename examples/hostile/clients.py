@@ -12,16 +12,7 @@ FILES = {"k": IMAGE, "i": b"\0", "disk": bytes(1024), "other": bytes(513)}
 HEAD = re.compile(rb"HTTP/1\.1 (200|204|400|500|503) [ -~]+\r\n((?:[A-Za-z-]+: [ -~]*\r\n)*)\r\n")
 LENGTH = re.compile(rb"^Content-Length: ([0-9]+)\r$", re.M)
 REFUSAL = re.compile(rb'"fault_message":"([0-9]+): ')
-# Inputs may name any file, so that no program runs as root.
-NOBODY = {"user": "nobody", "group": "nogroup", "extra_groups": []} if os.geteuid() == 0 else {}
 LAST_REQUEST = b"GET / HTTP/1.1\r\n\r\n"
-
-
-def open_to_all(folder):
-    """Lets nobody write into a folder, and to its files."""
-    os.chmod(folder, 0o777)
-    for name in os.listdir(folder):
-        os.chmod(os.path.join(folder, name), 0o666)
 
 
 def clients_of(script):
@@ -104,7 +95,7 @@ def replayed(program, folder, again, answers):
     with open(os.path.join(folder, "trace"), "rb") as file:
         words = [program, "replay", "--id", "hostile"]
         try:
-            done = subprocess.run(words, stdin=file, cwd=again, capture_output=True, timeout=SECONDS, **NOBODY)
+            done = subprocess.run(words, stdin=file, cwd=again, capture_output=True, timeout=SECONDS)
         except subprocess.TimeoutExpired:
             return f"the replay of the trace didn't end within {SECONDS} seconds"
     if done.stderr or done.returncode not in (0, 3):
@@ -122,17 +113,16 @@ def fault_of_server(program, script, folder, again, seen):
         for name, content in FILES.items():
             with open(os.path.join(each, name), "wb") as file:
                 file.write(content)
-        open_to_all(each)
     path = os.path.join(folder, "socket")
     words = [program, "serve", "--api-sock", "socket", "--trace", "trace", "--id", "hostile"]
     with open(os.path.join(folder, "out"), "wb") as out, open(os.path.join(folder, "err"), "wb") as err:
-        process = subprocess.Popen(words, stdin=subprocess.DEVNULL, stdout=out, stderr=err, cwd=folder, **NOBODY)
+        process = subprocess.Popen(words, stdin=subprocess.DEVNULL, stdout=out, stderr=err, cwd=folder)
     try:
         until = time.monotonic() + SECONDS
         while not os.path.exists(path):
             if process.poll() is not None or time.monotonic() > until:
                 return f"no socket; the server has {process.poll()}"
-            time.sleep(0.005)
+            time.sleep(0.001)
         answers, fault = served(path, process, script, seen)
     finally:
         process.terminate()

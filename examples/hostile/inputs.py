@@ -5,6 +5,8 @@ import os
 import random
 import re
 
+from chains import chain
+
 HERE = os.path.dirname(os.path.realpath(__file__))
 TOP = os.path.dirname(os.path.dirname(HERE))
 MOST_STEPS = 3000
@@ -61,7 +63,7 @@ def with_little_memory(script):
     """A machine whose memory may be written to a file has little of it."""
     if b"/snapshot/create" not in script:
         return script
-    return re.sub(rb'("mem_size_mib": ?)([0-9]+)', lambda it: it[1] + (b"64" if 64 < int(it[2]) <= 1024 else it[2]), script)
+    return re.sub(rb'("mem_size_mib": ?)([0-9]+)', lambda it: it[1] + (b"8" if 8 < int(it[2]) <= 1024 else it[2]), script)
 
 
 # Values at limits, by which a number, a text or a whole value is replaced.
@@ -70,13 +72,17 @@ NUMBERS = [0, 1, 2, 3, 4, 15, 16, 17, 31, 32, 33, 63, 64, 65, 127, 128, 255, 256
 TEXTS = ["", "a", "None", "x" * 64, "x" * 65, "x" * 4095, "x" * 4096, "\0", "é"]
 VALUES = [None, True, False, 0, 1, -1, 1.0, 1e3, *TEXTS, [], [1], {}, {"a": 1}]
 LIMITER = {"bandwidth": {"size": 100, "refill_time": 10, "one_time_burst": 5}, "ops": {"size": 0, "refill_time": 1}}
+DRIVE = {"drive_id": "d", "path_on_host": "disk", "is_root_device": True, "is_read_only": False, "cache_type": "Writeback"}
+SAVE = ("PUT", "/snapshot/create", {"snapshot_path": "s", "mem_file_path": "m", "snapshot_type": "Full"})
 # The calls of the API with the fields of their bodies.
 CALLS = [
     ("PUT", "/boot-source", {"kernel_image_path": "k", "initrd_path": "i", "boot_args": "a b"}),
     ("PUT", "/boot-source", {"kernel_image_path": "k"}),
-    ("PUT", "/drives/d", {"drive_id": "d", "path_on_host": "disk", "is_root_device": True, "is_read_only": False,
-                          "cache_type": "Writeback"}),
+    ("PUT", "/boot-source", {"kernel_image_path": "big", "initrd_path": "big"}),
+    ("PUT", "/boot-source", {"kernel_image_path": "k", "initrd_path": "gone"}),
+    ("PUT", "/drives/d", DRIVE),
     ("PUT", "/drives/e", {"drive_id": "e", "path_on_host": "disk", "is_root_device": False}),
+    ("PUT", "/drives/f", {"drive_id": "f", "path_on_host": "disk", "is_root_device": True}),
     ("PATCH", "/drives/d", {"drive_id": "d", "path_on_host": "other"}),
     ("PUT", "/machine-config", {"vcpu_count": 2, "mem_size_mib": 4, "smt": False, "track_dirty_pages": True,
                                 "cpu_template": "None", "huge_pages": "None"}),
@@ -86,7 +92,7 @@ CALLS = [
     ("PUT", "/actions", {"action_type": "InstanceStart"}),
     ("PATCH", "/vm", {"state": "Paused"}),
     ("PATCH", "/vm", {"state": "Resumed"}),
-    ("PUT", "/snapshot/create", {"snapshot_path": "s", "mem_file_path": "m", "snapshot_type": "Full"}),
+    SAVE,
     ("PUT", "/snapshot/create", {"snapshot_path": "t", "mem_file_path": "u", "snapshot_type": "Diff"}),
     ("PUT", "/snapshot/load", {"snapshot_path": "s", "mem_file_path": "m", "resume_vm": True}),
     ("PUT", "/snapshot/load", {"snapshot_path": "s", "mem_backend": {"backend_path": "m", "backend_type": "File"},
@@ -98,6 +104,7 @@ CALLS = [
     ("PATCH", "/network-interfaces/n", {"iface_id": "n", "rx_rate_limiter": LIMITER, "tx_rate_limiter": {}}),
     ("PUT", "/vsock", {"guest_cid": 3, "uds_path": "v", "vsock_id": "a"}),
     ("PUT", "/balloon", {"amount_mib": 1, "deflate_on_oom": True, "stats_polling_interval_s": 1}),
+    ("PUT", "/balloon", {"amount_mib": 1, "deflate_on_oom": False}),
     ("PATCH", "/balloon", {"amount_mib": 2}), ("PATCH", "/balloon/statistics", {"stats_polling_interval_s": 2}),
     ("PUT", "/mmds/config", {"network_interfaces": ["n"], "version": "V2", "ipv4_address": "169.254.169.254"}),
     ("GET", "/balloon", None), ("GET", "/balloon/statistics", None),
@@ -112,6 +119,15 @@ REPLIES = ["ok", "fail", "none", "now 0", "now 18446744073709551615", "part " + 
 IMAGE = "970201009383130013fef301131ece00330e5e0023347e006ff05ffe"
 
 
+# What starts a machine, makes it stand still and saves it.
+START = [("PUT", "/boot-source", {"kernel_image_path": "k"}),
+         ("PUT", "/machine-config", {"vcpu_count": 1, "mem_size_mib": 4, "track_dirty_pages": True}), ("PUT", "/drives/d", DRIVE),
+         ("PUT", "/actions", {"action_type": "InstanceStart"}), ("PATCH", "/vm", {"state": "Paused"}), SAVE]
+# Which kind an input is, by its number.
+KINDS = ("script", "body", "chain", "stream", "files", "script", "body", "chain", "queue", "stream", "script", "body", "files", "chain",
+         "clients", "scarce", "script", "body", "calls", "stream", "queue", "input", "files", "output")
+
+
 class Inputs:
     """All inputs of a seed."""
 
@@ -123,8 +139,15 @@ class Inputs:
     def make(self, number):
         """The kind of an input, and its script. For the kind `files` the script is what goes on from changed files."""
         chance = random.Random(f"{self.seed} {number}")
-        kind = ("script", "stream", "body", "files", "queue", "clients")[number % 6]
-        return kind, with_little_memory(getattr(self, kind)(chance)), chance
+        kind = KINDS[number % len(KINDS)]
+        if kind == "chain":
+            return kind, chain(chance), chance
+        made = {"input": self.script, "output": self.script, "scarce": self.any_script, "calls": failing_script}.get(kind)
+        return kind, with_little_memory(made(chance) if made else getattr(self, kind)(chance)), chance
+
+    def any_script(self, chance):
+        """A script of a kind that asks for memory."""
+        return chance.choice([self.script, self.body, self.stream])(chance)
 
     def script(self, chance):
         lines = [short(it) for it in chance.choice(self.scripts)]
@@ -175,28 +198,16 @@ class Inputs:
         return b"\n".join(lines) + b"\n"
 
     def body(self, chance):
-        """Calls in any order, with fields that are missing, at limits, of another type, or unknown."""
+        """Calls in any order, with fields that are missing, at limits, of another type, or unknown; some before a start, and some after it."""
         lines = [f"file k {IMAGE}".encode(), b"file i 00", b"file disk " + b"00" * 1024, b"file other " + b"00" * 513]
-        start = [("PUT", "/boot-source", {"kernel_image_path": "k"}),
-                 ("PUT", "/machine-config", {"vcpu_count": 1, "mem_size_mib": 4, "track_dirty_pages": True}),
-                 ("PUT", "/drives/d", CALLS[2][2]),
-                 ("PUT", "/actions", {"action_type": "InstanceStart"}), ("PATCH", "/vm", {"state": "Paused"}), CALLS[12]]
-        for method, path, fields in start[: chance.randint(0, len(start))]:
+        for _ in range(chance.choice([0, 0, 1, 2, 4])):
+            lines.append(api_line(*changed_call(chance, 0.3)))
+        if chance.random() < 0.02:
+            lines += drives_up_to(chance.choice([15, 16, 17]))
+        for method, path, fields in START[: chance.randint(0, len(START))]:
             lines.append(api_line(method, path, json.dumps(fields)))
         for _ in range(chance.randint(1, 10)):
-            method, path, fields = chance.choice(CALLS)
-            if chance.random() < 0.1:
-                method = chance.choice(METHODS)
-            if chance.random() < 0.1:
-                path = chance.choice(PATHS)
-            body = "" if fields is None else json.dumps(fields)
-            if chance.random() < 0.7 and fields is not None:
-                for _ in range(chance.randint(1, 3)):
-                    fields = changed_fields(chance, fields)
-                body = json.dumps(fields, ensure_ascii=chance.random() < 0.5)
-            if chance.random() < 0.1:
-                body = changed_bytes(chance, body.encode()).replace(b"\n", b" ").decode("latin-1")
-            lines.append(api_line(method, path, body))
+            lines.append(api_line(*changed_call(chance, 0.7)))
             if chance.random() < 0.2:
                 lines.append(b"step h0 50")
         return ended(chance, lines)
@@ -231,22 +242,93 @@ FILES_SCRIPT = b"\n".join([
     b'api PUT /snapshot/create {"snapshot_path":"s3","mem_file_path":"m3"}', b""])
 
 
-def changed_files(chance, folder):
-    """Changes one to three places of the files in this folder, most of them near a file's start; or cuts or lengthens one."""
-    for _ in range(chance.choice([0, 1, 1, 2, 3])):
-        path = os.path.join(folder, chance.choice(["s0", "s1", "s2", "s3", "m0", "m0", "m1", "m1", "m2", "m3"]))
-        size = os.path.getsize(path)
-        with open(path, "r+b") as file:
-            what = chance.random()
-            if what < 0.1:
-                file.truncate(chance.choice([0, 1, 31, 32, 63, 64, 4095, 4096, max(0, size - 1), size // 2]))
-            elif what < 0.2:
-                file.truncate(size + chance.choice([1, 8, 4096]))
-            elif size:
-                near = chance.choice([64, 256, 600, 4160, size])
-                at = min(size - 1, chance.randrange(near))
-                file.seek(at)
-                file.write(bytes([chance.choice([0, 1, 2, 127, 128, 255, chance.randrange(256)])]))
+def drives_up_to(count):
+    """As many drives."""
+    return [api_line("PUT", f"/drives/n{k}", json.dumps({"drive_id": f"n{k}", "path_on_host": "disk", "is_root_device": False})) for k in range(count)]
+
+
+def changed_call(chance, often):
+    """A call, in so many cases with one to three changes of its fields, and now and then with another method, path or byte."""
+    method, path, fields = chance.choice(CALLS)
+    method = chance.choice(METHODS) if chance.random() < 0.1 else method
+    path = chance.choice(PATHS) if chance.random() < 0.1 else path
+    body = "" if fields is None else json.dumps(fields)
+    if chance.random() < often and fields is not None:
+        for _ in range(chance.randint(1, 3)):
+            fields = changed_fields(chance, fields)
+        body = json.dumps(fields, ensure_ascii=chance.random() < 0.5)
+    if chance.random() < 0.01:
+        body = json.dumps({"a": "x" * chance.choice([51_190, 51_200, 65_536, 70_000])})
+    if chance.random() < 0.1:
+        body = changed_bytes(chance, body.encode()).replace(b"\n", b" ").decode("latin-1")
+    return method, path, body
+
+
+def failing_script(chance=None):
+    """A full create and one of a diff, for which calls on files are to fail."""
+    return FAILING_SCRIPT
+
+
+def names_in(script):
+    """The files of a snapshot that a script of the kind `files` names."""
+    words = set(re.findall(rb"[sm][0-3]\b", script[:2000]))
+    return sorted(it.decode() for it in words)
+
+
+def bases_in(script):
+    """The files into which the merges in front of a script go."""
+    return {it.decode() for it in re.findall(rb"^merge ([sm][0-3]) ", script, re.M)}
+
+
+def with_full_slots(file):
+    """Opens all slots of a memory file, so that no diff can be merged into it; the last one has the file's own identity."""
+    own = file.read(32)[16:32]
+    for slot in range(100):
+        file.seek(64 + 32 * slot)
+        identity = own if slot == 99 else own[:8] + (1000 + slot).to_bytes(8, "little")
+        file.write(identity + b"\1" + bytes(15))
+
+
+def changes_of(chance, names):
+    """Changes of one to three places of these files: which file, what is done, and two numbers for it."""
+    changes = []
+    if "m0" in names and chance.random() < 0.02:
+        changes.append(("m0", "slots", 0, 0))
+    for _ in range(chance.choice([0, 1, 1, 2, 3]) if names else 0):
+        what = chance.random()
+        name = chance.choice(names)
+        if what < 0.1:
+            changes.append((name, "cut", chance.choice([0, 1, 31, 32, 63, 64, 4095, 4096, -1, -2]), 0))
+        elif what < 0.2:
+            changes.append((name, "more", chance.choice([1, 8, 4096]), 0))
+        else:
+            near = chance.choice([64, 256, 600, 4160, 1 << 23])
+            changes.append((name, "byte", chance.randrange(near), chance.choice([0, 1, 2, 127, 128, 255, chance.randrange(256)])))
+    return changes
+
+
+def change_file(folder, name, what, number, byte):
+    """Makes such a change; most are near a file's start. A cut of -1 is by a byte, and one of -2 by half."""
+    with open(os.path.join(folder, name), "r+b") as file:
+        size = file.seek(0, os.SEEK_END)
+        file.seek(0)
+        if what == "slots" and size > 4096:
+            with_full_slots(file)
+        elif what == "cut":
+            file.truncate(max(0, size - 1) if number == -1 else size // 2 if number == -2 else number)
+        elif what == "more":
+            file.truncate(size + number)
+        elif what == "byte" and size:
+            file.seek(min(size - 1, number))
+            file.write(bytes([byte]))
+
+
+FAILING_SCRIPT = b"\n".join([
+    b"file k 9772e0ff23a052006f000000", b'api PUT /boot-source {"kernel_image_path":"k"}',
+    b'api PUT /machine-config {"vcpu_count":1,"mem_size_mib":4,"track_dirty_pages":true}', b'api PUT /actions {"action_type":"InstanceStart"}',
+    b"step h0 3", b'api PATCH /vm {"state":"Paused"}', b'api PUT /snapshot/create {"snapshot_path":"s","mem_file_path":"m"}',
+    b'api PATCH /vm {"state":"Resumed"}', b"step h0 3", b'api PATCH /vm {"state":"Paused"}',
+    b'api PUT /snapshot/create {"snapshot_type":"Diff","snapshot_path":"t","mem_file_path":"u"}', b"api GET /vm/config", b""])
 
 
 def ended(chance, lines):

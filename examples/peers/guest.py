@@ -1,6 +1,8 @@
 """A served machine with an interface or a vsock device, in a folder of its own, and what the checks here compare."""
 
+import filecmp
 import os
+import resource
 import shutil
 import socket
 import subprocess
@@ -10,7 +12,7 @@ import time
 sys.dont_write_bytecode = True
 TOP = os.path.dirname(os.path.dirname(os.path.dirname(os.path.realpath(__file__))))
 sys.path.insert(0, f"{TOP}/bench")
-from machine import PROGRAM, answer, connected, image_of, put, serve
+from machine import PROGRAM, answer, connected, image_of, put, serve, spent_by
 
 # How long anything may take, on a machine with much other work.
 SECONDS = 60
@@ -47,8 +49,8 @@ def need_program(name):
 class Guest:
     """An image of guests/ that is served, with this number at its offset 8 if there is one. In a `with` it ends when that is left."""
 
-    def __init__(self, folder, name, number, link=None, vsock=None, limits="", mib=16, trace=None):
-        self.folder, self.trace, self.lives = folder, trace, 0
+    def __init__(self, folder, name, number, link=None, vsock=None, limits="", mib=16, harts=1, trace=None, descriptors=None):
+        self.folder, self.trace, self.lives, self.descriptors = folder, trace, 0, descriptors
         os.makedirs(folder, exist_ok=True)
         if number is None:
             shutil.copy(f"{TOP}/guests/images/{name}", f"{folder}/image")
@@ -57,7 +59,7 @@ class Guest:
                 file.write(image_of(name, number))
         conn = self.serve()
         put(conn, "/boot-source", '{"kernel_image_path":"image"}')
-        put(conn, "/machine-config", f'{{"vcpu_count":1,"mem_size_mib":{mib}}}')
+        put(conn, "/machine-config", f'{{"vcpu_count":{harts},"mem_size_mib":{mib}}}')
         if link:
             fields = f'"iface_id":"eth","host_dev_name":"{link}","guest_mac":"02:00:00:00:00:08"{limits}'
             put(conn, "/network-interfaces/eth", f"{{{fields}}}")
@@ -78,8 +80,11 @@ class Guest:
         self.out = f"{self.folder}/out{self.lives}"
         words = ["--trace", self.trace] if self.trace else []
         with open(self.out, "wb") as out:
-            self.process, conn = serve(self.folder, *words, stdout=out)
+            self.process, conn = serve(self.folder, *words, stdout=out, preexec_fn=self.limit if self.descriptors else None)
         return conn
+
+    def limit(self):
+        resource.setrlimit(resource.RLIMIT_NOFILE, (self.descriptors, self.descriptors))
 
     def ask(self, method, path, body=""):
         """The status and the body of the answer to one request, and the seconds that it took, on a connection of its own."""
@@ -96,6 +101,20 @@ class Guest:
         """Whether it says soon that it runs."""
         status, body, seconds = self.ask("GET", "/")
         return status == 200 and '"Running"' in body and seconds < 1
+
+    def is_answered(self):
+        """The same, where the server may have no descriptor for a client."""
+        try:
+            return self.is_served()
+        except (ConnectionError, IndexError, ValueError):
+            return False
+
+    def sleeps(self):
+        """Whether the process takes next to nothing of a processor for two seconds."""
+        time.sleep(0.5)
+        before = sum(spent_by(self.process))
+        time.sleep(2)
+        return sum(spent_by(self.process)) - before < 0.05
 
     def said(self):
         with open(self.out, "rb") as file:
@@ -138,6 +157,19 @@ class Guest:
         lines = [it for it in done.stdout.split(b"\n") if it[:2] in (b"! ", b". ")]
         text = b"".join(it[2:] if it[:1] == b"!" else it + b"\n" for it in lines)
         return text.replace(b"\\x0a", b"\n").decode()
+
+
+    def is_replayed(self):
+        """Saves the guest, and whether the replay of the trace writes the same snapshot, to the byte."""
+        if self.save() != (204, 204):
+            return False
+        self.stop()
+        other = f"{self.folder}/replayed"
+        os.mkdir(other)
+        shutil.copy(f"{self.folder}/image", other)
+        with open(f"{self.folder}/{self.trace}", "rb") as file:
+            subprocess.run([PROGRAM, "replay"], cwd=other, stdin=file, stdout=subprocess.DEVNULL, check=False)
+        return all(filecmp.cmp(f"{self.folder}/{it}", f"{other}/{it}", shallow=False) for it in ("state", "memory"))
 
 
 def listens(path):

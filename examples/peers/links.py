@@ -12,7 +12,7 @@ from guest import SECONDS, TOP, Guest, Helper, until
 
 FRAMES = f"{TOP}/guests/frames"
 TEXT = "a text of the host\nand its second line\n"
-STAYS, WAITS = 0, 1 << 63
+STAYS, WAITS, RECEIVES = 0, 1 << 63, 1 << 62
 ROUTER_MAC = bytes.fromhex("020000000007")
 # A network of its own for passt: an interface whose router is this machine, where also nobody's pings are answered.
 NETWORK = """ip link set lo up && ip link add eth0 type veth peer name eth1 && ip link set eth1 up && ip addr add 192.0.2.2/24 dev eth0 &&
@@ -131,13 +131,17 @@ def beside_another(checks, folder):
         return
     os.makedirs(folder)
     words = ["socat", f"UNIX-LISTEN:{folder}/a", f"UNIX-LISTEN:{folder}/b"]
-    with Helper(words, f"{folder}/a"), Guest(f"{folder}/one", "net", None, link=f"{folder}/a", trace="trace") as one:
-        with Guest(f"{folder}/two", "lease", STAYS, link=f"{folder}/b", trace="trace") as two:
+    with Helper(words, f"{folder}/a"), Guest(f"{folder}/one", "net", None, link=f"{folder}/a") as one:
+        with Guest(f"{folder}/two", "lease", STAYS | WAITS, link=f"{folder}/b") as two:
             checks.same("a second monitor: its status", 0, one.status())
             checks.same("a second monitor: it is answered", True, two.shows("it answers a ping\n"))
             checks.same("a second monitor: what the first prints", pings("02:00:00:00:00:08"), two.said())
             checks.same("a second monitor: what it prints", pinged("02:00:00:00:00:08") + ". off\n", without_strangers(one.said()))
-            checks.same("a second monitor: the replay", one.said(), one.replayed())
+
+
+def limited(name):
+    """400 frames a second, of which 40 may come at once."""
+    return f',"{name}_rate_limiter":{{"ops":{{"size":40,"refill_time":100}}}}'
 
 
 def told(frame):
@@ -225,6 +229,7 @@ def misbehaves(checks, folder):
             peer.accept()
             peer.begin()
             checks.same("a peer that comes", True, guest.shows("it answers a ping\n"))
+            checks.same("a peer that is silent", True, guest.sleeps())
             ask = told(peer.ask())
             for count in 0, 13, 1515, 70000:
                 peer.stream.sendall(told(bytes(count)) + ask)
@@ -282,4 +287,47 @@ def stops_reading(checks, folder):
             peer.close()
 
 
-PARTS = (behind_qemu, behind_passt, beside_qemu, beside_another, misbehaves, stops_reading)
+def floods(checks, folder):
+    """A peer that sends without a pause to a guest that takes no frame: what the guest sends gets through, and the API is served."""
+    os.makedirs(folder)
+    peer = Peer(f"{folder}/link")
+    with Guest(f"{folder}/guest", "traffic", 64 << 40 | (1 << 40) - 1, link=f"{folder}/link") as guest:
+        try:
+            peer.accept()
+            peer.stream.setblocking(False)
+            frames = told(bytes(1514)) * 200
+            sent = 0
+            try:
+                while sent < 1 << 24:
+                    sent += peer.stream.send(frames)
+            except BlockingIOError:
+                pass
+            peer.stream.settimeout(SECONDS)
+            checks.same("a flood: it is held up where nobody takes it", True, sent < 1 << 24)
+            checks.same("a flood: it is served", True, guest.is_served())
+            checks.same("a flood: the guest's frames", 64000, sum(len(peer.frame()) for _ in range(1000)))
+        finally:
+            peer.close()
+
+
+def replayed(checks, folder):
+    """The replay of a trace writes the snapshot that the served machine wrote, of guests that send or take frames with limits."""
+    for name, limits in ("tx", ""), ("rx", ""), ("tx", limited("tx")), ("rx", limited("rx")):
+        where = f"{folder}/{name}{len(limits)}"
+        os.makedirs(where)
+        peer = Peer(f"{where}/link")
+        number = WAITS | 400 << 40 | (1 << 40) - 1 | (name == "rx") * RECEIVES
+        with Guest(f"{where}/guest", "traffic", number, link=f"{where}/link", limits=limits, trace="trace") as guest:
+            try:
+                peer.accept()
+                for _ in range(300):
+                    if name == "rx":
+                        peer.stream.sendall(told(bytes(400)))
+                    else:
+                        peer.frame()
+                checks.same(f"{name}, {'limits' if limits else 'no limits'}: the replay's snapshot", True, guest.is_replayed())
+            finally:
+                peer.close()
+
+
+PARTS = (behind_qemu, behind_passt, beside_qemu, beside_another, misbehaves, stops_reading, floods, replayed)

@@ -10,13 +10,18 @@ import subprocess
 import threading
 import time
 
-from guest import SECONDS, Guest, Helper, until
+from guest import SECONDS, Guest, listens, until
 
 ECHO, DISCARD, GENERATE = 7, 9, 19
-WAITS, PORT = 1 << 63, 1024
+WAITS, COUNTS, PORT = 1 << 63, 1 << 62, 1024
 MIB = 1 << 20
 OK = re.compile(rb"OK ([0-9]+)\n")
 BEGUN = "our number is 3\n"
+
+
+def part_of(pipe):
+    """What comes next of a program's output."""
+    return os.read(pipe.fileno(), 100) if select.select([pipe], [], [], SECONDS)[0] else b"nothing in time"
 
 
 class Connection:
@@ -69,6 +74,12 @@ class Connection:
         self.stream.sendall(text)
         return self.taken(len(text)) == text
 
+    def is_over(self):
+        """Whether its other end is closed, also where there is something to read."""
+        asked = select.poll()
+        asked.register(self.stream, select.POLLHUP)
+        return any(event & select.POLLHUP for _, event in asked.poll(0))
+
     def close(self):
         self.stream.close()
 
@@ -88,9 +99,9 @@ def guest_in(folder, number=WAITS, **more):
 
 
 def is_well(path):
-    """Whether a new connection is given back what it sends."""
-    made = opened(path, ECHO)
-    good = made.is_echoed(b"are you there?")
+    """Whether a new connection is taken, and given back what it sends."""
+    made = Connection(path, ECHO)
+    good = made.port() is not None and made.is_echoed(b"are you there?")
     made.close()
     return good
 
@@ -105,7 +116,7 @@ def from_the_host(checks, folder):
                 client.stdin.flush()
                 got = b""
                 while len(got) < len(said):
-                    more = os.read(client.stdout.fileno(), 100)
+                    more = part_of(client.stdout)
                     if not more:
                         break
                     got += more
@@ -125,13 +136,13 @@ def to_the_host(checks, folder):
     with subprocess.Popen(words, stdin=subprocess.PIPE, stdout=subprocess.PIPE) as host:
         assert until(lambda: os.path.exists(name)), "socat doesn't listen"
         with guest_in(f"{folder}/guest", PORT | WAITS, trace="trace") as guest:
-            checks.same("what the guest says", b"a guest is here\n", os.read(host.stdout.fileno(), 100))
+            checks.same("what the guest says", b"a guest is here\n", part_of(host.stdout))
             host.stdin.write(b"and a host\n")
             host.stdin.flush()
-            checks.same("what it gives back", b"and a host\n", os.read(host.stdout.fileno(), 100))
+            checks.same("what it gives back", b"and a host\n", part_of(host.stdout))
             host.stdin.close()
             checks.same("the guest's status", 0, guest.status())
-            said = f"{BEGUN}{dialled}the host ends it, behind 27 bytes\n. off\n"
+            said = f"{BEGUN}{dialled}the host ends it, behind 11 bytes\n. off\n"
             checks.same("what it prints", said, guest.said())
             checks.same("the replay", said, guest.replayed())
     with Guest(f"{folder}/refused", "vsock", PORT, vsock="v.sock", trace="trace") as guest:
@@ -213,10 +224,20 @@ def misbehave(checks, folder):
         good("a silent one")
         silent.close()
         unread = opened(path, GENERATE)
-        time.sleep(2)
         good("one that doesn't read")
+        checks.same("it is ended", True, until(unread.is_over))
+        good("one that didn't read")
         got = unread.taken(64 * MIB)
-        checks.same("what it still gets", True, 256 * 1024 <= len(got) < 64 * MIB and got == generated(len(got)))
+        checks.same("it gets a beginning", True, 0 < len(got) < MIB and got == generated(len(got)))
+        flooding = [opened(path, DISCARD) for _ in range(8)]
+        writers = [threading.Thread(target=it.stream.sendall, args=(bytes(MIB // 16),)) for it in flooding]
+        for it in writers:
+            it.start()
+        good("floods")
+        for it in writers:
+            it.join()
+        for it in flooding:
+            it.close()
         half = opened(path, ECHO)
         half.stream.sendall(b"the last word")
         half.stream.shutdown(socket.SHUT_WR)
@@ -250,4 +271,115 @@ def saved(checks, folder):
         checks.same("a connection to it", True, is_well(path))
 
 
-PARTS = (from_the_host, to_the_host, sixty_four, a_mebibyte, misbehave, saved)
+def replayed(checks, folder):
+    """The replay of a trace writes the snapshot that the served machine wrote, of a guest with connections in many states."""
+    with guest_in(folder, trace="trace") as guest:
+        path = f"{folder}/v.sock"
+        held = [opened(path, it) for it in (ECHO, DISCARD, GENERATE, ECHO)]
+        held += [Connection(path, 0, b"CONNECT 7"), Connection(path, 0, b""), Connection(path, 5)]
+        checks.same("before a snapshot", True, held[0].is_echoed(b"a text of many words " * 500) and held[2].taken(20000) == generated(20000))
+        held[1].stream.sendall(bytes(20000))
+        held[3].close()
+        checks.same("connections: the replay's snapshot", True, guest.is_replayed())
+        for it in held:
+            it.close()
+
+
+def beside_a_hart(checks, folder):
+    """A second hart of the guest counts without an end, in a thread of its own."""
+    with guest_in(folder, WAITS | COUNTS, harts=2) as guest:
+        path = f"{folder}/v.sock"
+        sent = random.Random(8).randbytes(MIB // 16)
+        echo = opened(path, ECHO)
+        writer = threading.Thread(target=echo.stream.sendall, args=(sent,))
+        writer.start()
+        checks.same("64 KiB beside a hart that counts", True, echo.taken(len(sent)) == sent)
+        writer.join()
+        held = [Connection(path, ECHO) for _ in range(63)]
+        checks.same("64 connections beside it", 63, sum(it.port() is not None for it in held))
+        checks.same("beside it: it is served", True, guest.is_served())
+        for it in [echo, *held]:
+            it.close()
+        checks.same("behind them it is well", True, until(lambda: is_well(path)))
+    os.makedirs(f"{folder}/dials")
+    with socket.socket(socket.AF_UNIX) as door:
+        door.bind(f"{folder}/dials/v.sock_{PORT}")
+        door.listen()
+        with guest_in(f"{folder}/dials", PORT | WAITS | COUNTS, harts=2, trace="trace") as guest:
+            stream, _ = door.accept()
+            stream.settimeout(SECONDS)
+            checks.same("a guest of two harts dials", b"a guest is here\n", stream.recv(100))
+            stream.close()
+            checks.same("and its status", 0, guest.status())
+            checks.same("and its replay", guest.said(), guest.replayed())
+
+
+def idle(checks, folder):
+    """A process whose guest waits sleeps, with connections on which nothing comes, and hears the next byte."""
+    with guest_in(folder) as guest:
+        path = f"{folder}/v.sock"
+        held = [opened(path, ECHO) for _ in range(40)]
+        checks.same("40 connections", True, all(it.is_echoed(b"here") for it in held))
+        checks.same("on which nothing comes", True, guest.sleeps())
+        checks.same("and then something does", True, all(it.is_echoed(b"here still") for it in held))
+        for it in held:
+            it.close()
+
+
+def contested(checks, folder):
+    """The socket can't be made while another machine has it, where another file is, and where there is no folder; and is made once it can be."""
+    os.makedirs(folder)
+    path = f"{folder}/v.sock"
+    with Guest(f"{folder}/one", "vsock", WAITS, vsock=path) as one, Guest(f"{folder}/two", "vsock", WAITS, vsock=path) as two:
+        checks.same("two machines with one socket run", True, one.shows(BEGUN) and two.shows(BEGUN) and one.is_served() and two.is_served())
+        held = opened(path, ECHO)
+        checks.same("the first has it", True, held.is_echoed(b"is it you?"))
+        one.stop()
+        checks.same("its end", True, held.is_ended())
+        checks.same("the other one has it then", True, until(lambda: listens(path)) and is_well(path))
+    os.remove(path)
+    os.mkdir(path)
+    with Guest(f"{folder}/three", "vsock", WAITS, vsock=path) as guest:
+        checks.same("a folder of that name: it runs", True, guest.shows(BEGUN) and guest.is_served())
+        os.rmdir(path)
+        checks.same("a folder that went away", True, until(lambda: listens(path)) and is_well(path))
+    with Guest(f"{folder}/four", "vsock", WAITS, vsock=f"{folder}/later/v.sock") as guest:
+        checks.same("no folder: it runs", True, guest.shows(BEGUN) and guest.is_served())
+        os.mkdir(f"{folder}/later")
+        checks.same("a folder that comes", True, until(lambda: listens(f"{folder}/later/v.sock")) and is_well(f"{folder}/later/v.sock"))
+
+
+def full_listener(checks, folder):
+    """A program of the host listens, and takes nobody: the guest is refused, or connected and never taken, and is served."""
+    os.makedirs(f"{folder}/guest")
+    with socket.socket(socket.AF_UNIX) as door:
+        door.bind(f"{folder}/guest/v.sock_{PORT}")
+        door.listen(0)
+        with socket.socket(socket.AF_UNIX) as first:
+            first.connect(f"{folder}/guest/v.sock_{PORT}")
+            with Guest(f"{folder}/guest", "vsock", PORT, vsock="v.sock") as guest:
+                checks.same("a listener that has no room", 0, guest.status())
+                checks.same("refuses the guest", True, guest.said().endswith("the host refuses it\n. off\n"))
+
+
+def few_descriptors(checks, folder):
+    """A process with few descriptors takes who connects once it has one."""
+    with guest_in(folder, descriptors=24) as guest:
+        path = f"{folder}/v.sock"
+        held = [Connection(path, ECHO) for _ in range(30)]
+        until(lambda: len(select.select([it.stream for it in held], [], [], 0)[0]) >= 5)
+        time.sleep(1)
+        come = select.select([it.stream for it in held], [], [], 0)[0]
+        taken = [it for it in held if it.stream in come and it.port() is not None]
+        checks.same("some are taken, and not all", True, 5 <= len(taken) < 30)
+        checks.same("each of these is well", True, all(it.is_echoed(b"here") for it in taken))
+        late = next(it for it in held if it not in taken)
+        for it in taken:
+            it.close()
+        checks.same("the next is taken then", True, late.port() is not None and late.is_echoed(b"at last"))
+        for it in held:
+            it.close()
+        checks.same("it is served then", True, until(guest.is_answered))
+
+
+PARTS = (from_the_host, to_the_host, sixty_four, a_mebibyte, misbehave, saved, replayed, beside_a_hart, idle, contested, full_listener, few_descriptors)

@@ -1,4 +1,5 @@
 pub mod Blanks
+pub mod Blocks
 pub mod Copying
 pub mod Each
 pub mod Ending

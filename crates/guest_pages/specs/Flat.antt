@@ -1,9 +1,9 @@
 -- What holds of the pages of a set: each has its number, all its bytes, a slot for each hart, and granules inside.
-use Rattle.std.specs.Prelude.{ℕ, suc, ◌≡◌, ◌+◌, ◌≤◌, List, [], ◌∷◌, length, Option, Some, None}
+use Rattle.std.specs.Prelude.{ℕ, suc, ◌≡◌, ◌+◌, ◌/◌, ◌≤◌, Bool, true, false, List, [], ◌∷◌, length, slice_index_or, Option, Some, None}
 use Rattle.guest_memory.specs.Ram.{page_size}
 use Rattle.guest_memory.specs.Reserved.{hart_limit}
 use Rattle.guest_pages.specs.Made.{unmade}
-use Rattle.guest_pages.specs.Pages.{PageValue}
+use Rattle.guest_pages.specs.Pages.{PageValue, marks_of}
 
 -- granules that are inside a page
 abbrev pub AreInside : List (Option ℕ) → Type 0
@@ -22,7 +22,12 @@ abbrev pub ArePages : ℕ → List PageValue → Type 0
 ArePages i [] = Unit {0}
 ArePages i (p ∷ ps) = IsPage i p × ArePages (suc i) ps
 
--- and how many of them are made or spare
-pub record IsSet (pages : List PageValue) (spare owned : ℕ) : Type 0 where
+-- where a page is marked, so is its block of 64 pages; a block that there isn't counts as marked
+abbrev pub AreSummed : List Bool → List Bool → Type 0
+AreSummed marks blocks = (i : ℕ) → slice_index_or marks i false ≡ true → slice_index_or blocks (i / 64) true ≡ true
+
+-- with how many of them are made or spare, and which blocks are marked
+pub record IsSet (pages : List PageValue) (spare owned : ℕ) (blocks : List Bool) : Type 0 where
   pub are : ArePages 0 pages
   pub owns : owned + unmade pages ≡ spare + length pages
+  pub summed : AreSummed (marks_of pages) blocks

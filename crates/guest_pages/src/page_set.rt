@@ -10,12 +10,14 @@ ghost use Rattle.guest_pages.specs.Made.{Spends, is_made, is_ready};
 ghost use Rattle.guest_pages.specs.Marks.{marked_from, marks_after};
 ghost use Rattle.guest_pages.specs.Words.{pages_at, place_among, read_of, read_reply, served, write_of, write_reply};
 
+mod blocks;
 mod code;
 mod parting;
 mod room;
 
 use crate::blank::Blank;
 use crate::slot::Slot;
+use blocks::{clear_all, clear_blocks, forget, marked_in, note, note_page};
 pub use code::CodePage;
 use guest_memory::{PAGE_SIZE, RAM_START};
 pub use parting::mark_made;
@@ -25,12 +27,14 @@ use std::marker::Model;
 use vm_types::{ActorId, GuestAddr, Op, Reply};
 
 /// The pages in order, which contracts see as the list of their values, and by `flat_of` as the one memory; and how many spare
-/// ones there are, from which pages are made. `owned` is how many are made or spare, which acts don't change.
+/// ones there are, from which pages are made. `owned` is how many are made or spare, which acts don't change. `blocks` has a flag for
+/// 64 pages, which is set where one of them may be marked.
 #[derive(Drop)]
 pub struct PageSet {
     pages: Vec<Slot>,
     spare: Vec<Blank>,
     owned: usize,
+    blocks: Vec<bool>,
 }
 
 impl Model for PageSet {
@@ -42,7 +46,7 @@ impl Model for PageSet {
 
     ghost view = { λ s. record { pages = s.pages.items; spare = length s.spare.items } };
 
-    ghost invariant = { λ s. IsSet s.pages.items (length s.spare.items) s.owned };
+    ghost invariant = { λ s. IsSet s.pages.items (length s.spare.items) s.owned s.blocks.items };
 }
 
 impl PageSet {
@@ -54,6 +58,7 @@ impl PageSet {
         ensures marks { IfOk result (λ set. marks_of set.pages ≡ replicate count false) }
         ensures spare { IfOk result (λ set. set.spare ≡ 0) }
     {
+        let blocks = clear_blocks(alloc, count as usize / 64 + 1)?;
         let mut pages = Vec::with_capacity(alloc, count as usize)?;
         for number in 0..count {
             pages.push(Slot::new(number))?;
@@ -62,6 +67,7 @@ impl PageSet {
             pages,
             spare: Vec::new(alloc),
             owned: 0,
+            blocks,
         })
     }
 
@@ -115,7 +121,10 @@ impl PageSet {
         ensures len { length self.new.pages ≡ length self.old.pages }
         ensures spends { Spends 1 self.old self.new }
     {
-        self.pages[number].act(&mut self.spare, actor, op)
+        let page = &mut self.pages[number];
+        let reply = page.act(&mut self.spare, actor, op);
+        note_page(&mut self.blocks, number, page);
+        reply
     }
 
     // The number of the page that has these bytes, or `None` where none has all of them.
@@ -169,6 +178,7 @@ impl PageSet {
             return false;
         };
         self.pages[number].write_word(&mut self.spare, writer, at, word, width);
+        note(&mut self.blocks, number);
         true
     }
 
@@ -177,7 +187,7 @@ impl PageSet {
         requires { length self.now.pages < 2 ^ 32 }
         ensures { IfOk result (λ numbers. numbers.items ≡ marked_from 0 (marks_of self.now.pages)) }
     {
-        marked_in(alloc, &self.pages)
+        marked_in(alloc, &self.pages, &self.blocks)
     }
 
     /// Takes every mark away.
@@ -186,7 +196,8 @@ impl PageSet {
         ensures memory { flat_of self.new.pages ≡ flat_of self.old.pages }
         ensures marks { marks_of self.new.pages ≡ replicate (length self.old.pages) false }
     {
-        clear_all(&mut self.pages);
+        clear_all(&mut self.pages, &self.blocks);
+        forget(&mut self.blocks);
     }
 
     // Puts a piece into one page.
@@ -268,26 +279,5 @@ impl PageSet {
         ensures harts { IfSome result (λ slots. length slots.now ≡ 32) }
     {
         self.pages[number].some_reserved()
-    }
-}
-
-fn marked_in(alloc: Global, pages: &[Slot]) -> Result<Vec<u32>, AllocError>
-    requires { length pages.now < 2 ^ 32 }
-    ensures { IfOk result (λ numbers. numbers.items ≡ marked_from 0 (marks_of pages.now)) }
-{
-    let mut numbers = Vec::new(alloc);
-    for number in 0..pages.len() {
-        if pages[number].is_marked() {
-            numbers.push(number as u32)?;
-        }
-    }
-    Ok(numbers)
-}
-
-fn clear_all(pages: &mut [Slot])
-    ensures { pages.new ≡ cleared pages.old }
-{
-    for page in pages.iter_mut() {
-        page.clear_mark();
     }
 }

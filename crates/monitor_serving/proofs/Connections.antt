@@ -73,7 +73,7 @@ module _ (s : Start) (first : ListenerKnown) (monitor opened : Monitor) (trace t
       (old.talk ++ Opened ∷ [])
   stands_opened = record {
     is = opens old.flat old.stands.is;
-    own = old.stands.own;
+    own = record { disk = old.stands.own.disk; link = old.stands.own.link; vsock = old.stands.own.vsock };
     reached =
         let act : Act = record { item = item.Connect; outcomes = [] } in
         let next : Machine = record old.flat { connection = new_connection } in

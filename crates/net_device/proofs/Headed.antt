@@ -1,5 +1,5 @@
 -- A text for the driver begins with the header, whatever comes behind it.
-use Rattle.std.proofs.Common.{◌≡◌, ℕ, ◌+◌, ◌<◌, ◌≤◌, ◌==◌, nat_lt, refl, sym, ap, ◌∙◌, subst, Bool, true, false, if◌then◌else◌, List, ◌++◌, length, length-append, length-drop, drop, take, arith}
+use Rattle.std.proofs.Common.{◌≡◌, ℕ, ◌+◌, ◌<◌, ◌≤◌, ◌==◌, nat_lt, refl, ap, ◌∙◌, Bool, true, false, if◌then◌else◌, List, ◌++◌, length, length-append, length-drop, drop, take, arith}
 use borrow.Rule.Slice.PartMut.{put_mid}
 use Rattle.std.specs.Str.{bytes_eq}
 use Rattle.std.proofs.lemmas.Bool.{eqb-true, le-ltb, ltb-false}

@@ -16,8 +16,8 @@ use Rattle.slice_runner.specs.Slices.{IsSerial, IsThere, MarksFollow, written_by
 use Rattle.slice_runner.specs.Stops.{AreStopped}
 
 -- the parts were put back, and then blanks
-pub put_and_given : {w put back : WorldValue} {m : ℕ} → IsSameButSpare put back → put ≡ record w { spare = m } → back ≡ record w { spare = back.spare }
-put_and_given {back = back} given is = given ∙ ap (λ (v : WorldValue). record v { spare = back.spare }) is
+pub put_and_given : (w put back : WorldValue) (m : ℕ) → IsSameButSpare put back → put ≡ record w { spare = m } → back ≡ record w { spare = back.spare }
+put_and_given w put back m given is = given ∙ ap (λ (v : WorldValue). record v { spare = back.spare }) is
 
 module _ (old made : WorldValue) (p : WorldParts) (n : ℕ) (same : IsSameButSpare old made) (taken : record (world_of p) { spare = n } ≡ made) where
   -- as many harts
@@ -25,18 +25,19 @@ module _ (old made : WorldValue) (p : WorldParts) (n : ℕ) (same : IsSameButSpa
   harts_around = ap (λ (w : WorldValue). length w.harts) taken ∙ ap (λ (w : WorldValue). length w.harts) same
 
   -- room for the world is room for its parts
-  pub room_around : {Q : Type 0} (pages ports harts passes steps blanks : ℕ) (room : Room Q) → pages ≡ length old.pages → ports ≡ length old.ports
-      → harts ≡ length old.harts → blanks ≡ pool_of steps old.pages → HasRoom pages ports harts passes steps blanks room
-      → HasRoom (length p.pages.items) (length p.ports.items) (length p.harts.items) passes steps (pool_of steps p.pages.items) room
-  room_around {Q} pages ports harts passes steps blanks room pages_many ports_many harts_many blanks_are has =
+  pub room_around : {Q : Type 0} (pages ports harts passes total steps blanks : ℕ) (room : Room Q) → pages ≡ length old.pages → ports ≡ length old.ports
+      → harts ≡ length old.harts → blanks ≡ pool_of steps old.pages → passes ≡ total → HasRoom pages ports harts passes steps blanks room
+      → HasRoom (length p.pages.items) (length p.ports.items) (length p.harts.items) total steps (pool_of steps p.pages.items) room
+  room_around {Q} pages ports harts passes total steps blanks room pages_many ports_many harts_many blanks_are passes_are has =
       let pages_are : p.pages.items ≡ old.pages = ap (λ (w : WorldValue). w.pages) taken ∙ ap (λ (w : WorldValue). w.pages) same in
       let ports_are : p.ports.items ≡ old.ports = ap (λ (w : WorldValue). w.ports) taken ∙ ap (λ (w : WorldValue). w.ports) same in
       let harts_are : p.harts.items ≡ old.harts = ap (λ (w : WorldValue). w.harts) taken ∙ ap (λ (w : WorldValue). w.harts) same in
-      subst (λ (k : ℕ). HasRoom k (length p.ports.items) (length p.harts.items) passes steps (pool_of steps p.pages.items) room)
+      subst (λ (k : ℕ). HasRoom (length p.pages.items) (length p.ports.items) (length p.harts.items) k steps (pool_of steps p.pages.items) room) passes_are
+      (subst (λ (k : ℕ). HasRoom k (length p.ports.items) (length p.harts.items) passes steps (pool_of steps p.pages.items) room)
       (pages_many ∙ ap length (sym pages_are))
       (subst (λ (k : ℕ). HasRoom pages k (length p.harts.items) passes steps (pool_of steps p.pages.items) room) (ports_many ∙ ap length (sym ports_are))
       (subst (λ (k : ℕ). HasRoom pages ports k passes steps (pool_of steps p.pages.items) room) (harts_many ∙ ap length (sym harts_are))
-      (subst (λ (k : ℕ). HasRoom pages ports harts passes steps k room) (blanks_are ∙ ap (pool_of steps) (sym pages_are)) has)))
+      (subst (λ (k : ℕ). HasRoom pages ports harts passes steps k room) (blanks_are ∙ ap (pool_of steps) (sym pages_are)) has))))
 
   pub there_around : (es : List Entry) → All (λ (e : Entry). IsThere (length (world_of p).harts) e.actor) es
       → All (λ (e : Entry). IsThere (length old.harts) e.actor) es

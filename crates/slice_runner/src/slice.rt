@@ -1,5 +1,7 @@
 // A slice of a world.
-ghost use Rattle.std.specs.Prelude.{◌≡◌, ◌+◌, ◌≤◌, length, All, IfOk, OnErr, OnOk};
+ghost use Rattle.std.specs.Prelude.{◌≡◌, ◌+◌, ◌≤◌, ◌^◌, length, All, IfOk, OnErr, OnOk};
+ghost use Rattle.slice_runner.specs.Blanks.{pool_of};
+ghost use Rattle.slice_runner.specs.Values.{layout_in};
 ghost use Rattle.slice_runner.specs.Slices.{AreStamps, ClockWasAsked, IsSerial, IsThere, MarksFollow};
 ghost use Rattle.vm_world.specs.Worlds.{IsSameButSpare};
 ghost use Rattle.slice_runner.specs.Stops.{AreStopped};
@@ -70,14 +72,9 @@ pub fn run_slice<Q: Send + Drop, C: Clock, G: Gate<Pass = Q> + Sync, R: Threads 
     ensures serve { All (G.serves gate.now) passes.new.items }
     ensures same { length passes.new.items ≡ length passes.old.items }
 {
-    let layout = Layout {
-        pages: world.pages().len() as u32,
-        ports: world.ports().len() as u8,
-    };
+    let layout = layout_of(world);
     let harts = world.hart_count();
-    let blanks = (steps as usize)
-        .min(world.pages().unmade())
-        .min(MOST_BLANKS);
+    let blanks = blanks_for(world, steps);
     let pools = pools_of(alloc, world, harts + 1, blanks)?;
     let room = Room::<Q>::new(alloc, layout, harts, passes.len(), steps, pools)?;
     let board = Board::new(alloc, 0)?;
@@ -99,6 +96,27 @@ pub fn run_slice<Q: Send + Drop, C: Clock, G: Gate<Pass = Q> + Sync, R: Threads 
             Err(AllocError)
         }
     }
+}
+
+// How many pages and ports there are.
+fn layout_of(world: &World) -> Layout
+    ensures layout { result ≡ layout_in world.now }
+    ensures few { (result.pages ≤ 2 ^ 28) × (result.ports ≤ 255) }
+{
+    Layout {
+        pages: world.pages().len() as u32,
+        ports: world.ports().len() as u8,
+    }
+}
+
+// How many blanks an actor has at first.
+fn blanks_for(world: &World, steps: u32) -> usize
+    ensures blanks { result ≡ pool_of steps world.now.pages }
+    ensures few { result ≤ 256 }
+{
+    (steps as usize)
+        .min(world.pages().unmade())
+        .min(MOST_BLANKS)
 }
 
 // A pool of so many blanks for each of so many actors, of the world's spare pages.

@@ -1,7 +1,9 @@
 -- How many bytes each part of a state file has at most.
-use Rattle.std.proofs.Common.{ℕ, zero, suc, arith, replicate}
+use Rattle.std.proofs.Common.{ℕ, zero, suc, List, arith, length, replicate}
+use Rattle.std.specs.Prelude.{nat_le}
 use Rattle.std.proofs.lemmas.Bool.{and_parts, leb-true}
 use Rattle.file_format.specs.Kinds.{byte, number64, optional}
+use Rattle.net_device.specs.Frames.{is_headed}
 use Rattle.snap_devices.specs.Balloons as balloons
 use Rattle.snap_devices.specs.Limits as limits
 use Rattle.snap_devices.specs.Nets as nets
@@ -242,7 +244,9 @@ device_place_within = then_within byte_within device_places_within
 
 text_within : Within nets.text.reads (λ _. 1530)
 unfolding nets.text
-text_within = passing_within _ (λ _. 1530) (λ v is. omega (arith, leb-true _ _ (and_parts _ _ is).0)) bytes_within
+text_within =
+    passing_within _ (λ _. 1530) (λ (v : List ℕ) is.
+    omega (arith, leb-true (length v) 1526 (and_parts (nat_le (length v) 1526) (is_headed v) is).0)) bytes_within
 
 piece_within : Within nets.piece.reads (λ _. 68)
 unfolding nets.piece

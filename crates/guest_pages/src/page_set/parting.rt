@@ -5,6 +5,7 @@ ghost use Rattle.guest_pages.specs.Flat.{ArePages};
 ghost use Rattle.guest_pages.specs.Made.{made_of};
 
 use super::PageSet;
+use super::blocks::note_all;
 use crate::blank::Blank;
 use crate::slot::Slot;
 use std::alloc::Global;
@@ -28,6 +29,7 @@ impl PageSet {
         ensures pages { self.new ≡ record self.old { pages = pages.items } }
     {
         self.owned = self.spare.len() + made_among(&pages);
+        note_all(&mut self.blocks, &pages);
         self.pages = pages;
     }
 

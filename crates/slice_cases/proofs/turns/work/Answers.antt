@@ -1,9 +1,12 @@
-use Rattle.std.proofs.Common.{◌∷◌, [], length, inr, ap, ◌∙◌, arith, length-append}
+use Rattle.std.proofs.Common.{◌∷◌, [], length, vec_len, inr, sym, ap, ◌∙◌, arith, length-append}
+use Rattle.std.proofs.lemmas.Bool.{eqb-false}
 use Rattle.turn_table.specs.Views.{noted}
 use Rattle.slice_cases.proofs.turns.work.Goals as goal
 
 pub act_turn-entry-requires-clause-fed : goal.act_turn-entry-requires-clause-fed
-act_turn-entry-requires-clause-fed g c = inr (omega (arith, c.if-is_empty.false, c.is_empty.ensures))
+act_turn-entry-requires-clause-fed g c =
+    let pool = c.loop-act.turner.pool in
+    inr (omega (arith, eqb-false (vec_len pool) 0 (sym c.is_empty.ensures ∙ c.if-is_empty.false), pool.ok))
 
 pub loop-act-preserved : goal.loop-act-preserved
 loop-act-preserved g c =

@@ -5,7 +5,7 @@ use Rattle.slice_runner.specs.Room.{ForCrew}
 use Rattle.slice_runner.proofs.sharing.share.Goals as goal
 
 pub run-requires-clause-room : goal.run-requires-clause-room
-run-requires-clause-room g c =
+run-requires-clause-room g c κs within =
     let blanks = pool_of c.args.steps c.args.parts.pages.items in (
       blanks,
       subst (λ k. ForCrew k (length c.args.passes.now.items) c.args.steps blanks c.args.room.crew) (sym (ap length c.in-Ok.ensures.opened.harts))

@@ -1,6 +1,7 @@
 use Rattle.std.proofs.Common.{◌∙◌, ap, length, arith}
 use Rattle.guest_pages.specs.Made.{unmade}
 use Rattle.guest_pages.specs.Pages.{new_pages}
+use Rattle.guest_pages.proofs.Blocks.{none_summed}
 use Rattle.guest_pages.proofs.Loading.{made_count, made_marks, new_memory}
 use Rattle.guest_pages.proofs.Making.{new_unmade}
 use Rattle.guest_pages.proofs.Sets.{made_are, one_page_more}
@@ -13,6 +14,7 @@ pub invariant_of-result : goal.invariant_of-result
 invariant_of-result c = record {
   are = made_are c.loop-number.pages.items _ c.loop-number.invariant;
   owns = omega (arith, ap unmade c.loop-number.invariant ∙ new_unmade 0 c.loop-number.number, made_count c.loop-number.pages.items c.loop-number.number c.loop-number.invariant, ap length c.new-2.ensures.items);
+  summed = none_summed _ _ c.loop-number.number (made_marks c.loop-number.pages.items c.loop-number.number c.loop-number.invariant);
 }
 
 pub returns-clause-memory : goal.returns-clause-memory

@@ -1,7 +1,8 @@
-use Rattle.std.proofs.Common.{◌≡◌, List, [], length, sym, ap, subst, arith, rules}
-use Rattle.guest_pages.specs.Flat.{ArePages}
+use Rattle.std.proofs.Common.{◌≡◌, List, [], length, refl, sym, ap, subst, arith, rules}
+use Rattle.guest_pages.specs.Flat.{ArePages, AreSummed}
 use Rattle.guest_pages.specs.Made.{unmade}
-use Rattle.guest_pages.specs.Pages.{PageValue}
+use Rattle.guest_pages.specs.Pages.{PageValue, marks_of}
+use Rattle.guest_pages.proofs.Blocks.{none_summed}
 use Rattle.guest_pages.proofs.page_set.PageSet.take_pages.Goals as goal
 
 pub invariant_of-self : goal.invariant_of-self
@@ -10,4 +11,5 @@ invariant_of-self c =
     record {
       are = subst (λ (pages : List PageValue). ArePages 0 pages) (sym none) tt;
       owns = omega (arith, c.len-self-inside.ensures, ap (λ (pages : List PageValue). length pages) none, ap unmade none);
+      summed = subst (λ (pages : List PageValue). AreSummed (marks_of pages) c.self.inside.blocks.items) (sym none) (none_summed [] c.self.inside.blocks.items 0 refl);
     }

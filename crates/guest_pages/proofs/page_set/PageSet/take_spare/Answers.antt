@@ -6,4 +6,5 @@ pub invariant_of-self : goal.invariant_of-self
 invariant_of-self c = record {
   are = c.self.invariant.are;
   owns = omega (arith, c.self.invariant.owns, c.move_some.ensures.left, all_counted c.self.inside.pages.items);
+  summed = c.self.invariant.summed;
 }
