@@ -2,19 +2,22 @@
 use Rattle.std.proofs.Common.{◌≡◌, ℕ, nat_lt, refl, sym, ap, subst, ◌∙◌, ◌++◌, Bool, true, false, if◌then◌else◌, Option, Some, None, option_map, List, [], ◌∷◌, length}
 use Rattle.std.specs.Prelude.{unwrap_or}
 use Rattle.vm_types.specs.declared.op.Op.{Op}
+use Rattle.vm_types.specs.declared.reply.Reply.{Reply}
 use Rattle.vm_types.specs.Fits.{Fits}
-use Rattle.device_trace.specs.Doing.{Doing, Gives, Wants}
+use Rattle.device_trace.specs.Doing.{Doing, Gives, Wants, led}
 use Rattle.device_trace.specs.Script.{Script, Ends, Asks, data_of}
 use Rattle.device_trace.specs.States.{Leads, changed_at, stepped, wants}
 use Rattle.device_trace.specs.Traces.{Item, Did, Changed, setting}
 use Rattle.vq_split.specs.declared.queue.Part.{Part}
+use Rattle.dev_core.specs.declared.collect.Collect.{Collect}
+use Rattle.dev_core.specs.Collecting.{collect_left}
 use Rattle.dev_core.specs.Pieces.{collect_all, readable, writable}
 use Rattle.rate_gate.specs.Gate.{Buckets, gate_takes, gate_took, with_buckets}
 use Rattle.rate_gate.specs.Lives.{GateEvent, MayCome, Passed, gate_after}
 use Rattle.queue_device.specs.declared.lanes.Which.{Which}
 use Rattle.queue_device.specs.Acting.{Acting, Comes, performing}
 use Rattle.queue_device.specs.Chains.{Chain, Taken}
-use Rattle.queue_device.specs.Owning.{ActingMoves, Leaves}
+use Rattle.queue_device.specs.Owning.{ActingMoves, HandLeaves, Leaves}
 use Rattle.queue_device.specs.Rounds.{time_of}
 use Rattle.queue_device.specs.Service.{Queued}
 use Rattle.queue_device.specs.Timing.{passed_by, timed_chain}
@@ -24,11 +27,15 @@ use Rattle.block_device.specs.declared.kind.BlockChange.{BlockChange}
 use Rattle.block_device.specs.declared.kind.BlockChange.TheVariants.{Limits, Sectors}
 use Rattle.block_device.specs.Block.{block, block_rules, changed, headed, is_short, need_of, request_of, served, taken}
 use Rattle.block_device.specs.Limits.{asked_event, changed_event, gate_events, limits_of}
+use Rattle.block_device.specs.declared.work.BlockStage.{BlockStage}
+use Rattle.block_device.specs.declared.work.BlockStage.TheVariants as at
 use Rattle.block_device.specs.Service.{service}
+use Rattle.block_device.specs.Serving.{serving_left}
+use Rattle.block_device.specs.Working.{Working, hand_of, serving_at, taking_at}
 
 -- ---- the limits stay, but where a request passes
 
-abbrev Same : BlockData → BlockData → Type 0
+abbrev pub Same : BlockData → BlockData → Type 0
 Same e f = f.limits ≡ e.limits
 
 performed : {A B : Type 0} (t : Doing A) (e : BlockData) (more : A → B)
@@ -54,7 +61,7 @@ serve_leaves t e =
     either (nat_lt (length t.got.bytes) 16) e None (performing (service (request_of t e)) e (λ f used. Comes f (Some used)))
     (performed (service (request_of t e)) e (λ used. Some used))
 
-leaves : Leaves block Same
+pub leaves : Leaves block Same
 leaves = record {
   same = λ e. refl;
   again = λ e f g first second. second ∙ first;
@@ -64,6 +71,28 @@ leaves = record {
   serve = λ k c e. serve_leaves (headed c.parts c.got) e;
   over = λ k e. refl;
   reset = λ e. refl;
+}
+
+-- and of the work that is begun
+
+taking_leaves : (s : BlockStage) (from : Collect) (to : List Part) (e : BlockData) (reply : Reply)
+    → ActingMoves Same e (taking_at s from to e reply)
+taking_leaves at.Rest from to e reply = refl
+taking_leaves at.Header from to e reply = performed (led (collect_left 16 from) reply) e (λ got. Some (headed to got))
+taking_leaves (at.Serve status stage) from to e reply = refl
+
+serving_leaves : (s : BlockStage) (from : Collect) (to : List Part) (e : BlockData) (reply : Reply)
+    → ActingMoves Same e (serving_at s from to e reply)
+serving_leaves at.Rest from to e reply = refl
+serving_leaves at.Header from to e reply = refl
+serving_leaves (at.Serve status stage) from to e reply =
+    performed (led (serving_left stage from to status) reply) e (λ used. Some used)
+
+pub hand_leaves : (w : Working) → HandLeaves Same (hand_of w)
+hand_leaves w = record {
+  answering = λ e reply. refl;
+  taking = taking_leaves w.stage w.from w.to;
+  serving = serving_leaves w.stage w.from w.to;
 }
 
 -- ---- what comes to the gate

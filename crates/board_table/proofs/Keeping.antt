@@ -1,5 +1,5 @@
 -- A board that a state file can have stays one, and what it replies is small.
-use Rattle.std.proofs.Common.{◌≡◌, ◌<◌, ◌≤◌, ℕ, suc, ◌+◌, ◌-◌, ◌%◌, ◌^◌, ◌==◌, ◌&&◌, refl, ap, ◌∙◌, Bool, true, false, if◌then◌else◌, min, nat_le, nat_lt, List, [], ◌∷◌, ◌++◌, Option, Some, None, length, replicate, arith, slice_set, bit_and, bit_or, length-append}
+use Rattle.std.proofs.Common.{◌≡◌, ◌<◌, ◌≤◌, ℕ, suc, ◌+◌, ◌-◌, ◌%◌, ◌^◌, ◌==◌, ◌&&◌, refl, ap, ◌∙◌, Bool, true, false, if◌then◌else◌, max, min, nat_le, nat_lt, List, [], ◌∷◌, ◌++◌, Option, Some, None, length, replicate, arith, slice_set, bit_and, bit_or, length-append}
 use Rattle.std.specs.List.{All}
 use Rattle.std.specs.Int.{bit_not, w16}
 use Rattle.std.proofs.Math.Pow.{pow-lt}
@@ -205,7 +205,7 @@ module _ (harts : ℕ) (b : Board) (is : IsKept harts b) where
   raised (ActorId.Hart k) = is
 
   advanced : (nanoseconds : ℕ) → IsKept harts (advance b nanoseconds)
-  advanced nanoseconds = at_moment (min (b.now + nanoseconds) last_moment) (omega arith)
+  advanced nanoseconds = at_moment (max b.now (min (b.now + nanoseconds) last_moment)) (omega (arith, is.now))
 
   done : (actor : ActorId) (it : BoardOp) → IsSmallAct it → IsKept harts (board_act b actor it).1
   done actor act.Look small = looked (hart_of b actor)

@@ -1,5 +1,5 @@
 -- What each act on the board is answered, and what it leaves.
-use Rattle.std.specs.Prelude.{ℕ, ◌+◌, ◌^◌, min, nat_le, nat_lt, Bool, true, false, ◌&&◌, if◌then◌else◌, length, bit_or}
+use Rattle.std.specs.Prelude.{ℕ, ◌+◌, ◌^◌, max, min, nat_le, nat_lt, Bool, true, false, ◌&&◌, if◌then◌else◌, length, bit_or}
 use Rattle.vm_types.specs.declared.ids.ActorId.{ActorId}
 use Rattle.vm_types.specs.declared.ids.ActorId.TheVariants.{Device}
 use Rattle.vm_types.specs.declared.op.Op.{Op}
@@ -19,9 +19,9 @@ abbrev pub raise_line : Board → ActorId → Board
 raise_line b (Device k) = if nat_lt k line_count then record b { pending = bit_or b.pending (2 ^ k) } else b
 raise_line b actor = b
 
--- guest time goes on, to the last moment at most
+-- guest time goes on, to the last moment at most, and never back
 abbrev pub advance : Board → ℕ → Board
-advance b nanoseconds = record b { now = min (b.now + nanoseconds) last_moment }
+advance b nanoseconds = record b { now = max b.now (min (b.now + nanoseconds) last_moment) }
 
 -- an act, by whom
 abbrev pub board_act : Board → ActorId → BoardOp → Reply × Board

@@ -13,4 +13,5 @@ pub mod Savable
 pub mod Shaped
 pub mod Soundness
 pub mod Stepping
+pub mod Timely
 pub mod Widths

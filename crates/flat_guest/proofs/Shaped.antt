@@ -33,9 +33,10 @@ use Rattle.hart_trace.proofs.OneHart.{one_hart}
 use Rattle.hart_trace.proofs.Traces.{leads_start, some_hart, wants_only}
 use Rattle.guest_devices.specs.declared.change.DeviceChange.{DeviceChange}
 use Rattle.guest_devices.specs.declared.new_device.NewDevice.{NewDevice}
+use Rattle.guest_devices.specs.Moments.{IsFreshNew, is_fresh_change}
 use Rattle.flat_guest.specs.Body.{out_reply, reply_at}
 use Rattle.flat_guest.specs.Changes.{board_shown, reset_guest, told}
-use Rattle.flat_guest.specs.Guest.{Guest, Wants, WantsFrom, unwritten}
+use Rattle.flat_guest.specs.Guest.{Guest, Wants, WantsFrom, unwritten, whole_pages}
 use Rattle.flat_guest.specs.Sound.{IsSound}
 use Rattle.flat_guest.specs.Start.{start_of_harts, started, timer_restarted}
 use Rattle.flat_guest.specs.Steps.{FlatStep, board_after, guest_after, memory_after, port_reply, ports_after}
@@ -50,6 +51,7 @@ use Rattle.flat_guest.specs.Shaped.{IsShaped, kinds_at_start}
 use Rattle.flat_guest.specs.Sound.{port_kinds}
 use Rattle.flat_guest.specs.Steps.{Makes}
 use Rattle.flat_guest.proofs.Soundness.{sound_next}
+use Rattle.flat_guest.proofs.Timely.{timely_after, timely_reset, timely_start, timely_told}
 
 get_all : {A : Type 0} (P : A → Type 0) (xs : List A) (k : ℕ) (x : A) → slice_get xs k ≡ Some x → All P xs → P x
 get_all P [] k x is all = cc
@@ -161,6 +163,7 @@ module _ (pages harts : ℕ) (kinds : List DeviceKind) (g : Guest) (event : Even
     ports = ports_on e.place;
     many = is.many;
     each = λ k start now there leads. hart_on k start now (same_actor (ActorId.Hart k) e.actor) there refl leads;
+    timely = timely_after g event e h sound is.timely step;
   }
 
   pub shaped_next : IsShaped pages harts kinds h
@@ -183,8 +186,9 @@ starts_shaped harts mib size =
     (All-replicate (λ (r : Regs). hart.IsShaped size (fresh r)) harts stopped_regs (stopped_shaped size))
 
 pub shaped_start : (harts mib : ℕ) (loads : Loads) (devices : List NewDevice) → harts ≤ hart_limit
-    → length (boot_memory mib loads).bytes ≡ bytes_of_mib mib → IsShaped (256 * mib) harts (kinds_at_start devices) (started harts mib loads devices)
-shaped_start harts mib loads devices few whole = record {
+    → length (boot_memory mib loads).bytes ≡ bytes_of_mib mib → All IsFreshNew devices
+    → IsShaped (256 * mib) harts (kinds_at_start devices) (started harts mib loads devices)
+shaped_start harts mib loads devices few whole new = record {
   few = few;
   memory = booted_whole mib harts loads whole;
   board = new_long harts;
@@ -196,6 +200,7 @@ shaped_start harts mib loads devices few whole = record {
       subst (λ (q : Hart). hart.IsShaped (page_size * (256 * mib)) q) (one_hart start [] (fresh start) now (leads_start start) leads)
       (get_all (λ (r : Regs). hart.IsShaped (page_size * (256 * mib)) (fresh r)) (start_of_harts harts mib) k start there
       (starts_shaped harts mib (page_size * (256 * mib))));
+  timely = timely_start 0 (whole_pages (boot_memory mib loads)) 0 devices new;
 }
 
 -- ---- what is no event
@@ -208,6 +213,7 @@ shaped_restart pages harts kinds g is = record {
   ports = is.ports;
   many = is.many;
   each = λ k start now there leads. is.each k start now there leads;
+  timely = is.timely;
 }
 
 pub shaped_unwritten : (pages harts : ℕ) (kinds : List DeviceKind) (g : Guest) → IsShaped pages harts kinds g → IsShaped pages harts kinds (unwritten g)
@@ -218,6 +224,7 @@ shaped_unwritten pages harts kinds g is = record {
   ports = is.ports;
   many = is.many;
   each = λ k start now there leads. is.each k start now there leads;
+  timely = is.timely;
 }
 
 pub shaped_reset : (pages harts : ℕ) (kinds : List DeviceKind) (g : Guest) → IsShaped pages harts kinds g → IsShaped pages harts kinds (reset_guest g)
@@ -228,6 +235,7 @@ shaped_reset pages harts kinds g is = record {
   ports = is.ports;
   many = is.many;
   each = λ k start now there leads. is.each k start now there leads;
+  timely = timely_reset g is.timely;
 }
 
 pub shaped_drained : (pages harts : ℕ) (kinds : List DeviceKind) (g : Guest) → IsShaped pages harts kinds g
@@ -239,6 +247,7 @@ shaped_drained pages harts kinds g is = record {
   ports = is.ports;
   many = is.many;
   each = λ k start now there leads. is.each k start now there leads;
+  timely = is.timely;
 }
 
 shown_long : (shown : Option (List ℕ)) (harts k : ℕ) (b : Board) → board_kept.IsLong harts b → board_kept.IsLong harts (board_shown shown b k)
@@ -246,12 +255,13 @@ shown_long None harts k b is = is
 shown_long (Some bytes) harts k b is = raised_long harts b is (ActorId.Device k)
 
 pub shaped_told : (pages harts : ℕ) (kinds : List DeviceKind) (g : Guest) (k : ℕ) (change : DeviceChange) (shown : Option (List ℕ))
-    → IsShaped pages harts kinds g → IsShaped pages harts kinds (told k change shown g)
-shaped_told pages harts kinds g k change shown is = record {
+    → is_fresh_change change ≡ true → IsShaped pages harts kinds g → IsShaped pages harts kinds (told k change shown g)
+shaped_told pages harts kinds g k change shown fresh is = record {
   few = is.few;
   memory = is.memory;
   board = shown_long shown harts k g.board is.board;
   ports = shown_kinds shown k g.ports ∙ is.ports;
   many = is.many;
   each = λ j start now there leads. is.each j start now there leads;
+  timely = timely_told g k change shown fresh is.timely;
 }

@@ -12,6 +12,7 @@ ghost use Rattle.guest_devices.specs.declared.change.DeviceChange.{DeviceChange}
 ghost use Rattle.guest_devices.specs.declared.new_device.NewDevice.{NewDevice};
 ghost use Rattle.guest_devices.specs.Devices.{FitsNew};
 ghost use Rattle.guest_devices.specs.Kinds.{FitsChange};
+ghost use Rattle.guest_devices.specs.Moments.{IsFreshNew, is_fresh_change};
 ghost use Rattle.flat_guest.specs.Given.{Event, Given};
 ghost use Rattle.flat_guest.specs.Given.Given.{Nothing};
 ghost use Rattle.flat_guest.specs.Changes.{reset_guest, told};
@@ -60,15 +61,17 @@ pub fn some_step()
         (es : List Entry) × (h : Guest) × StepsBy g actor count es h }
 {}
 
-/// A guest that has started with at most 32 harts is of the shape that a state file asks, and stays so.
+/// A guest that has started with at most 32 harts is of the shape that a state file asks, and stays so. Each bucket that comes from
+/// outside is one through which nothing passed.
 pub fn same_shape()
     ensures start { (harts mib : ℕ) (loads : Loads) (devices : List NewDevice) → harts ≤ hart_limit →
-        length (boot_memory mib loads).bytes ≡ bytes_of_mib mib →
+        length (boot_memory mib loads).bytes ≡ bytes_of_mib mib → All IsFreshNew devices →
         IsShaped (256 * mib) harts (kinds_at_start devices) (started harts mib loads devices) }
     ensures restart { (pages harts : ℕ) (kinds : List DeviceKind) (g : Guest) → IsShaped pages harts kinds g →
         IsShaped pages harts kinds (timer_restarted g) }
     ensures told { (pages harts : ℕ) (kinds : List DeviceKind) (g : Guest) (k : ℕ) (change : DeviceChange)
-        (shown : Option (List ℕ)) → IsShaped pages harts kinds g → IsShaped pages harts kinds (told k change shown g) }
+        (shown : Option (List ℕ)) → is_fresh_change change ≡ true → IsShaped pages harts kinds g →
+        IsShaped pages harts kinds (told k change shown g) }
     ensures reset { (pages harts : ℕ) (kinds : List DeviceKind) (g : Guest) → IsShaped pages harts kinds g →
         IsShaped pages harts kinds (reset_guest g) }
     ensures stays { (pages harts : ℕ) (kinds : List DeviceKind) (g : Guest) (event : Event) (e : Entry) (h : Guest) →

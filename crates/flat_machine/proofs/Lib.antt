@@ -4,6 +4,7 @@ pub mod Carries
 pub mod Determined
 pub mod Drives
 pub mod Fields
+pub mod Fresh
 pub mod Interfaces
 pub mod Mmds
 pub mod Numbered

@@ -69,6 +69,7 @@ use Rattle.flat_machine.proofs.Allowed.{IsAllowed, allowed_is, not_refused}
 use Rattle.flat_machine.proofs.Between.{allowed_later, by_either, leaves_of, one_many, several_many, started}
 use Rattle.flat_machine.proofs.Numbered.{found_numbered}
 use Rattle.flat_machine.proofs.ReadyGuests.{drained_ready, halted_ready, made_sound, reset_ready, resumed_ready, unwritten_ready}
+use Rattle.flat_machine.proofs.Fresh.{devices_fresh, limits_given, receives_given, transmits_given}
 use Rattle.flat_machine.proofs.Reconfigured.{amount_patched, drive_patched, interface_patched, interval_patched, relimited_ready, resized_ready, retargeted_ready, retimed_ready, start_kinds, start_many}
 use Rattle.flat_machine.proofs.Sizes.{booted_size, devices_fit, start_fits}
 use Rattle.flat_machine.proofs.Taken.{allowed_fits, bounded, changed_taken, configured_taken, default_taken, taken_configured}
@@ -94,7 +95,7 @@ patch_ready m patch ready taken =
     let number : Option ℕ = device_of m.config.drives patch.drive_id in record {
       taken = taken;
       guest =
-          relimited_ready after m.paused limits_told (λ l. tt) patch.rate_limiter number (resized patch.path_on_host number m.saved m.guest)
+          relimited_ready after m.paused limits_told limits_given patch.rate_limiter number (resized patch.path_on_host number m.saved m.guest)
           (resized_ready after m.paused patch.path_on_host number m.saved m.guest (drive_patched m.config patch m.paused m.guest taken ready.guest));
       next = ready.next;
       base = ready.base;
@@ -107,9 +108,9 @@ limits_ready m patch ready taken =
     let number : Option ℕ = interface_device m.config patch.iface_id in record {
       taken = taken;
       guest =
-          relimited_ready after m.paused transmits_told (λ l. tt) patch.tx_rate_limiter number
+          relimited_ready after m.paused transmits_told transmits_given patch.tx_rate_limiter number
           (relimited receives_told patch.rx_rate_limiter number m.guest)
-          (relimited_ready after m.paused receives_told (λ l. tt) patch.rx_rate_limiter number m.guest
+          (relimited_ready after m.paused receives_told receives_given patch.rx_rate_limiter number m.guest
           (interface_patched m.config patch m.paused m.guest taken ready.guest));
       next = ready.next;
       base = ready.base;
@@ -190,7 +191,8 @@ module _ (m : Machine) (image : List ℕ) (ready : Ready m) (there : image_of m 
               IsShaped (256 * m.config.machine.mem_size_mib) m.config.machine.vcpu_count kinds new_guest)
               (start_kinds m.config m.saved)
               (shaped_start m.config.machine.vcpu_count m.config.machine.mem_size_mib (loads_from m.config image (disk_of m)) devices
-              within.harts (booted_size m.config image (disk_of m) within (start_fits m image none there)));
+              within.harts (booted_size m.config image (disk_of m) within (start_fits m image none there))
+              (devices_fresh m.config m.saved));
           devices = sym new_sound.devices_on.as_many ∙ length-map devices port_at_start ∙ start_many m.config m.saved;
         };
         rests = λ stands. refl;

@@ -24,7 +24,8 @@ use Rattle.port_table.specs.declared.kind.DeviceKind.{DeviceKind}
 use Rattle.port_table.specs.declared.kind.DeviceKind.TheVariants as numbers
 use Rattle.port_table.specs.declared.state.PortState.{PortState}
 use Rattle.guest_devices.specs.declared.change.DeviceChange.{DeviceChange}
-use Rattle.guest_devices.specs.Kinds.{FitsChange, sectors_change}
+use Rattle.guest_devices.specs.Kinds.{sectors_change}
+use Rattle.guest_devices.specs.Moments.{IsGivenChange}
 use Rattle.flat_guest.specs.Changes.{told}
 use Rattle.flat_guest.specs.Guest.{Guest}
 use Rattle.flat_guest.specs.Shaped.{IsShaped, kinds_at_start}
@@ -178,21 +179,21 @@ interval_patched config patch paused guest taken is =
 -- ---- a device is told of a change
 
 module _ (config : Config) (paused : Bool) where
-  pub told_ready : (g : Guest) (k : ℕ) (change : DeviceChange) (shown : Option (List ℕ)) → FitsChange change → IsReadyGuest config paused g
+  pub told_ready : (g : Guest) (k : ℕ) (change : DeviceChange) (shown : Option (List ℕ)) → IsGivenChange change → IsReadyGuest config paused g
       → IsReadyGuest config paused (told k change shown g)
-  told_ready g k change shown fits is = record {
-    sound = sound_told g k change shown fits is.sound;
+  told_ready g k change shown given is = record {
+    sound = sound_told g k change shown given.0 is.sound;
     ready = record {
       configured = is.ready.configured;
-      shaped = shaped_told _ _ _ g k change shown is.ready.shaped;
+      shaped = shaped_told _ _ _ g k change shown given.1 is.ready.shaped;
       devices = told_many (slice_get g.devices k) g.devices k change ∙ is.ready.devices;
     };
     rests = is.rests;
   }
 
   pub at_ready : (number : Option ℕ) (change : DeviceChange) (shows : Option PortState → Option (List ℕ)) (guest : Option Guest)
-      → FitsChange change → ReadyBy config paused guest → ReadyBy config paused (told_at number change shows guest)
-  at_ready (Some k) change shows (Some g) fits is = told_ready g k change (shows (slice_get g.ports k)) fits is
+      → IsGivenChange change → ReadyBy config paused guest → ReadyBy config paused (told_at number change shows guest)
+  at_ready (Some k) change shows (Some g) given is = told_ready g k change (shows (slice_get g.ports k)) given is
   at_ready (Some k) change shows None fits is = tt
   at_ready None change shows (Some g) fits is = is
   at_ready None change shows None fits is = tt
@@ -202,9 +203,9 @@ module _ (config : Config) (paused : Bool) where
   resized_ready None number saved guest is = is
   resized_ready (Some path) number saved guest is =
       let change : DeviceChange = sectors_change (sectors_of (get saved path)) in
-      at_ready number change (shows_by change) guest (few_sectors (get saved path)) is
+      at_ready number change (shows_by change) guest (few_sectors (get saved path), refl) is
 
-  pub relimited_ready : (tells : Limiter → DeviceChange) → ((l : Limiter) → FitsChange (tells l)) → (limiter : Option Limiter)
+  pub relimited_ready : (tells : Limiter → DeviceChange) → ((l : Limiter) → IsGivenChange (tells l)) → (limiter : Option Limiter)
       (number : Option ℕ) (guest : Option Guest) → ReadyBy config paused guest → ReadyBy config paused (relimited tells limiter number guest)
   relimited_ready tells fits None number guest is = is
   relimited_ready tells fits (Some l) number guest is = at_ready number (tells l) (shows_by (tells l)) guest (fits l) is
@@ -212,9 +213,9 @@ module _ (config : Config) (paused : Bool) where
   pub retargeted_ready : (balloon : Option Balloon) (number : Option ℕ) (guest : Option Guest) → ReadyBy config paused guest
       → ReadyBy config paused (retargeted balloon number guest)
   retargeted_ready None number guest is = is
-  retargeted_ready (Some b) number guest is = at_ready number (interval_told b) (target_in b) guest tt is
+  retargeted_ready (Some b) number guest is = at_ready number (interval_told b) (target_in b) guest (tt, refl) is
 
   pub retimed_ready : (balloon : Option Balloon) (number : Option ℕ) (guest : Option Guest) → ReadyBy config paused guest
       → ReadyBy config paused (retimed balloon number guest)
   retimed_ready None number guest is = is
-  retimed_ready (Some b) number guest is = at_ready number (interval_told b) (shows_by (interval_told b)) guest tt is
+  retimed_ready (Some b) number guest is = at_ready number (interval_told b) (shows_by (interval_told b)) guest (tt, refl) is

@@ -26,7 +26,12 @@ use Rattle.hart_trace.proofs.Leads.{leads_next}
 use Rattle.hart_trace.proofs.OneHart.{one_hart}
 use Rattle.hart_trace.proofs.Shapes.{hart_shaped}
 use Rattle.hart_trace.proofs.Traces.{leads_start}
+use Rattle.guest_devices.specs.declared.device.Device.{Device}
+use Rattle.guest_devices.specs.Devices.{FlatDevice}
+use Rattle.guest_devices.specs.Moments.{IsTimelyDevice, is_timely}
+use Rattle.guest_devices.proofs.Moments.{kept_timely}
 use Rattle.flat_guest.specs.Shaped as guest
+use Rattle.flat_guest.proofs.Lists.{some_is}
 use Rattle.snap_harts.specs.declared.hart.SavedHart.{SavedHart}
 use Rattle.snap_harts.specs.declared.hart.HartPlace.{HartPlace}
 use Rattle.snap_harts.specs.declared.hart.HartPlace.TheVariants.{Begin, BeginWaiting, Idle, IdleWaiting, Access}
@@ -144,6 +149,14 @@ slots_are pages harts (r ∷ others) slots few each are =
 
 -- ---- the rest
 
+timely_on : (time : ℕ) (kept : List Device) → list_all (is_timely time) kept ≡ true → guest.AreTimely time (map resumed kept)
+timely_on time [] all k d is = absurd (cc)
+timely_on time (it ∷ kept) all zero d is =
+    let both = and_parts (is_timely time it) (list_all (is_timely time) kept) all in
+    subst (λ (e : FlatDevice). IsTimelyDevice time e) (some_is (resumed it) d is) (kept_timely time it both.0)
+timely_on time (it ∷ kept) all (suc k) d is =
+    timely_on time kept (and_parts (is_timely time it) (list_all (is_timely time) kept) all).1 k d is
+
 board_long : (harts : ℕ) (copy : StateCopy) → is_board harts copy.board ≡ true → IsLong harts (board_of copy)
 board_long harts copy is =
     let b = copy.board in
@@ -195,6 +208,7 @@ module _ (copy : StateCopy) (bytes : List ℕ) (tracking : Bool) (valid : IsTrue
         ports = (has_parts copy rules.devices).ports;
         many = length-map copy.harts regs_of ∙ eqb-true (length copy.harts) harts rules.many;
         each = λ k start now there leads. harts_shaped copy.pages copy.harts k start now rules.harts there leads;
+        timely = timely_on copy.guest_time copy.devices rules.timely;
       }
 
   pub carried_ready : IsReady (carried_config tracking copy.configuration) (carried_guest copy bytes)

@@ -25,12 +25,15 @@ use Rattle.guest_devices.specs.declared.device.Device.{Device}
 use Rattle.guest_devices.specs.Devices.{DeviceLeads, DeviceLeft, FlatDevice}
 use Rattle.guest_devices.specs.Ports.{number_of}
 use Rattle.guest_devices.specs.Kept.{device_left, device_pages, device_port, is_kept}
+use Rattle.guest_devices.specs.Moments.{is_timely}
 use Rattle.guest_devices.specs.Sound.{IsSoundDevice}
 use Rattle.guest_devices.proofs.Follows.{one_left}
-use Rattle.guest_devices.proofs.Placed.{bounded_kept, placed_alike}
+use Rattle.guest_devices.proofs.Moments.{copied_timely}
+use Rattle.guest_devices.proofs.Placed.{bounded_kept, kept_state, placed_alike}
 use Rattle.guest_devices.proofs.Soundness.{copied}
 use Rattle.flat_guest.specs.Changes.{reset_guest}
 use Rattle.flat_guest.specs.Guest.{Guest}
+use Rattle.flat_guest.specs.Shaped.{AreTimely}
 use Rattle.flat_guest.specs.Sound.{IsSound, device_kinds}
 use Rattle.flat_guest.proofs.Devices.{reset_many}
 use Rattle.flat_guest.proofs.Shaped.{shaped_reset}
@@ -201,6 +204,17 @@ devices_valid pages port (it ∷ kept) (d ∷ devices) few are each =
     let on : port + suc i ≡ suc port + i = omega arith in
     subst (λ (n : ℕ). IsSoundDevice n pages next) on (each (suc i) next there)))
 
+-- no request of a device passed later than guest time
+timely_valid : (time : ℕ) (kept : List Device) (devices : List FlatDevice) → AreKept kept devices → AreTimely time devices
+    → list_all (is_timely time) kept ≡ true
+timely_valid time [] [] are each = refl
+timely_valid time [] (d ∷ devices) are each = refl
+timely_valid time (it ∷ kept) [] are each = absurd are
+timely_valid time (it ∷ kept) (d ∷ devices) are each =
+    and_from (is_timely time it) (list_all (is_timely time) kept)
+    (copied_timely time d it (kept_state it are.1) are.0 (each 0 d refl))
+    (timely_valid time kept devices are.2 (λ i next there. each (suc i) next there))
+
 -- what is kept of a device is of its kind
 kept_kinds : (kept : List Device) (devices : List FlatDevice) → AreKept kept devices → map kind_of kept ≡ device_kinds devices
 kept_kinds [] [] are = refl
@@ -296,6 +310,7 @@ module _ (config : Config) (g : Guest) (sound : IsSound g) (is : IsReady config 
     reservations = reserved_are;
     rising = rising 0 g.memory.reserved;
     sections = refl;
+    timely = timely_valid g.board.now kept g.devices tell is.shaped.timely;
   })
 
 pub valid_copy : (config : Config) (g : Guest) (copy : StateCopy) → IsSound g → IsReady config g → config.machine.mem_size_mib ≤ 1024

@@ -1,5 +1,6 @@
 pub mod Among
 pub mod Follows
+pub mod Moments
 pub mod Narrow
 pub mod OfKind
 pub mod Owed

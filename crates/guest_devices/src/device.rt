@@ -2,6 +2,7 @@
 ghost use Rattle.std.specs.Prelude.{◌≡◌, true};
 ghost use Rattle.guest_devices.specs.Devices.{device_changed, left_reset, new_left};
 ghost use Rattle.guest_devices.specs.Kept.{IsReset, device_left, device_pages, device_port, is_kept, is_saved, kept_of};
+ghost use Rattle.guest_devices.specs.Moments.{is_timely};
 ghost use Rattle.guest_devices.specs.Ports.{number_of};
 
 use crate::balloon::{
@@ -11,6 +12,7 @@ use crate::block::{block_again, give_block, new_block, port_of_block, tell_block
 use crate::change::DeviceChange;
 use crate::net::{give_net, net_again, new_net, port_of_net, tell_net, want_of_net};
 use crate::new_device::NewDevice;
+use crate::timely::are_before;
 use crate::vsock::{
     give_vsock, new_vsock, port_of_vsock, reset_vsock, tell_vsock, vsock_again, want_of_vsock,
 };
@@ -77,6 +79,21 @@ impl Device {
             Device::Net(net) => net.state().rounds.pages,
             Device::Vsock(vsock) => vsock.state().rounds.pages,
             Device::Balloon(balloon) => balloon.state().rounds.pages,
+        }
+    }
+
+    /// Whether no request of it passed later than this time.
+    pub fn is_timely(&self, time: u64) -> bool
+        ensures { result ≡ is_timely time self.now }
+    {
+        match self {
+            Device::Block(block) => are_before(time, &block.state().kind.facts.limits),
+            Device::Net(net) => {
+                let kind = &net.state().kind;
+                are_before(time, kind.rx()) && are_before(time, kind.tx())
+            }
+            Device::Vsock(_) => true,
+            Device::Balloon(_) => true,
         }
     }
 

@@ -8,6 +8,7 @@ ghost use Rattle.device_trace.specs.Script.{Script, Ends};
 ghost use Rattle.device_trace.specs.States.{LeadsTo};
 ghost use Rattle.device_trace.specs.Traces.{Continues, Item};
 ghost use Rattle.vq_split.specs.Inside.{IsInside};
+ghost use Rattle.queue_device.specs.Rounds.{time_of};
 ghost use Rattle.queue_device.specs.Sizes.{IsReplyTo, IsSmallWrite};
 ghost use Rattle.guest_devices.specs.declared.change.DeviceChange.{DeviceChange};
 ghost use Rattle.guest_devices.specs.declared.device.Device.{Device};
@@ -18,6 +19,7 @@ ghost use Rattle.guest_devices.specs.Devices.{device_told, device_wants, left_re
 ghost use Rattle.guest_devices.specs.Kept.{IsBoundedDevice, device_left, device_pages, device_port, is_device_state, is_kept, is_saved};
 ghost use Rattle.guest_devices.specs.Narrow.{IsNarrowDevice, IsNarrowKept, IsNarrowNew};
 ghost use Rattle.guest_devices.specs.Kinds.{ChangeOf, FitsChange, IsSmallChange, Kind};
+ghost use Rattle.guest_devices.specs.Moments.{IsFreshNew, IsTimelyDevice, is_fresh_change, is_timely};
 ghost use Rattle.guest_devices.specs.Sound.{IsSoundDevice};
 
 /// The items of a device lead to one thing that is still to be done, and the act that this wants is the one that the
@@ -102,4 +104,21 @@ pub fn narrow_devices()
     ensures copied { (port pages : ℕ) (d : FlatDevice) → pages ≤ 2 ^ 20 → IsNarrowDevice port pages d →
         (it : Device) × DeviceLeads d (device_left it) × (is_device_state it ≡ true) × IsBoundedDevice it
         × (device_port it ≡ port) × (device_pages it ≡ pages) × IsNarrowKept it }
+{}
+
+/// No request of a device passes later than guest time: from its start on, with each fitting reply, where guest time is told where it
+/// is asked, with each change, behind a Reset, and from kept data on. What is kept of such a device is so.
+pub fn timely_devices()
+    ensures begins { (time port pages : ℕ) (what : NewDevice) → IsFreshNew what →
+        IsTimelyDevice time (new_device port pages what) }
+    ensures later { (time later : ℕ) (d : FlatDevice) → time ≤ later → IsTimelyDevice time d → IsTimelyDevice later d }
+    ensures stays { (time later : ℕ) (d : FlatDevice) (s : Step) → time ≤ later → (was : IsTimelyDevice time d) →
+        DeviceWants d s.op → Fits s.op s.reply → (left_times was.0 ≡ true → time_of s.reply ≤ later) →
+        IsTimelyDevice later (device_did d s) }
+    ensures told { (time : ℕ) (d : FlatDevice) (c : DeviceChange) → is_fresh_change c ≡ true → IsTimelyDevice time d →
+        IsTimelyDevice time (device_told d c) }
+    ensures reset { (time : ℕ) (d : FlatDevice) → IsTimelyDevice time d → IsTimelyDevice time (device_reset d) }
+    ensures resumed { (time : ℕ) (it : Device) → is_timely time it ≡ true → IsTimelyDevice time (device_at (device_left it)) }
+    ensures copied { (time : ℕ) (d : FlatDevice) (it : Device) → is_device_state it ≡ true → DeviceLeads d (device_left it) →
+        IsTimelyDevice time d → is_timely time it ≡ true }
 {}

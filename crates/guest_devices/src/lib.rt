@@ -17,12 +17,13 @@ mod net;
 mod new_device;
 mod port;
 mod several;
+mod timely;
 mod vsock;
 
 pub use change::DeviceChange;
 pub use device::Device;
 pub use drive::NewDrive;
-pub use law::{devices_follow, narrow_devices, sound_devices};
+pub use law::{devices_follow, narrow_devices, sound_devices, timely_devices};
 pub use new_device::NewDevice;
 pub use port::port_at_start;
 pub use several::{give_device, want_of_device};

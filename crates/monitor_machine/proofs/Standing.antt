@@ -28,7 +28,7 @@ use Rattle.guest_pages.specs.Pages.{cleared}
 use Rattle.guest_pages.proofs.Marking.{flat_cleared, marks_cleared}
 use Rattle.port_table.specs.declared.state.PortState.{PortState}
 use Rattle.guest_devices.specs.declared.change.DeviceChange.{DeviceChange}
-use Rattle.guest_devices.specs.Kinds.{FitsChange}
+use Rattle.guest_devices.specs.Moments.{IsGivenChange}
 use Rattle.flat_guest.specs.Changes.{reset_guest, told}
 use Rattle.flat_guest.specs.Given.{Given}
 use Rattle.flat_guest.specs.Guest.{Guest, unwritten}
@@ -39,6 +39,7 @@ use Rattle.flat_machine.specs.Requests.{halted, parent_of, shows_by}
 use Rattle.flat_machine.specs.Ready.{IsBaseBefore, IsReadyGuest, Ready, ReadyBy}
 use Rattle.flat_machine.proofs.Ready.{base_later, event_ready, guest_ready, makes_ready, new_ready}
 use Rattle.flat_machine.proofs.ReadyGuests.{drained_ready, halted_ready, reset_ready, resumed_ready, unwritten_ready}
+use Rattle.flat_machine.proofs.Fresh.{limits_given, receives_given, transmits_given}
 use Rattle.flat_machine.proofs.Reconfigured.{told_ready}
 use Rattle.flat_machine.proofs.Taken.{configured_taken}
 use Rattle.timer_trace.specs.States.{new_timer}
@@ -155,8 +156,8 @@ drain_stays live w there it =
 
 -- a device is told of a change, if both are there, and its port shows what this makes of it
 pub tells_stay : (live : Live) (device : Option ℕ) (change : DeviceChange) (shows : Option PortState → Option (List ℕ)) (after : Option WorldValue)
-    → FitsChange change → TellsDevice device change shows live.guest after → IsReadyLive live → IsReadyLive (record live { guest = after })
-tells_stay live device change shows after fits tells it = by_guest device live.guest after refl tells
+    → IsGivenChange change → TellsDevice device change shows live.guest after → IsReadyLive live → IsReadyLive (record live { guest = after })
+tells_stay live device change shows after given tells it = by_guest device live.guest after refl tells
   where
     by_guest : (k : Option ℕ) (w v : Option WorldValue) → live.guest ≡ w → TellsDevice k change shows w v
         → IsReadyLive (record live { guest = v })
@@ -167,9 +168,9 @@ tells_stay live device change shows after fits tells it = by_guest device live.g
         let on = standing live w there it in
         let shown : Option (List ℕ) = shows (slice_get on.guest.ports k) in
         changes_to live w v on (told k change shown on.guest)
-        (told_ready on.flat.config on.flat.paused on.guest k change shown fits on.stands) (is on.guest on.world)
+        (told_ready on.flat.config on.flat.paused on.guest k change shown given on.stands) (is on.guest on.world)
 
-pub relimits_stay : (live : Live) (tells : Limiter → DeviceChange) → ((l : Limiter) → FitsChange (tells l)) → (limiter : Option Limiter)
+pub relimits_stay : (live : Live) (tells : Limiter → DeviceChange) → ((l : Limiter) → IsGivenChange (tells l)) → (limiter : Option Limiter)
     (device : Option ℕ) (after : Option WorldValue) → Relimits tells limiter device live.guest after → IsReadyLive live
     → IsReadyLive (record live { guest = after })
 relimits_stay live tells fit None device after is it = same_stays live after (sym is) it
@@ -178,24 +179,24 @@ relimits_stay live tells fit (Some l) device after is it = tells_stay live devic
 both_stay : (live : Live) (patch : InterfacePatch) (device : Option ℕ) (after : Option WorldValue)
     → RelimitsBoth patch device live.guest after → IsReadyLive live → IsReadyLive (record live { guest = after })
 both_stay live patch device after (mid, receives, transmits) it =
-    relimits_stay (record live { guest = mid }) transmits_told (λ l. tt) patch.tx_rate_limiter device after transmits
-    (relimits_stay live receives_told (λ l. tt) patch.rx_rate_limiter device mid receives it)
+    relimits_stay (record live { guest = mid }) transmits_told transmits_given patch.tx_rate_limiter device after transmits
+    (relimits_stay live receives_told receives_given patch.rx_rate_limiter device mid receives it)
 
 retargets_stay : (live : Live) (balloon : Option Balloon) (device : Option ℕ) (after : Option WorldValue)
     → Retargets balloon device live.guest after → IsReadyLive live → IsReadyLive (record live { guest = after })
 retargets_stay live None device after tells it = same_stays live after (sym tells) it
-retargets_stay live (Some b) device after tells it = tells_stay live device (interval_told b) (target_in b) after tt tells it
+retargets_stay live (Some b) device after tells it = tells_stay live device (interval_told b) (target_in b) after (tt, refl) tells it
 
 retimes_stay : (live : Live) (balloon : Option Balloon) (device : Option ℕ) (after : Option WorldValue)
     → Retimes balloon device live.guest after → IsReadyLive live → IsReadyLive (record live { guest = after })
 retimes_stay live None device after tells it = same_stays live after (sym tells) it
-retimes_stay live (Some b) device after tells it = tells_stay live device (interval_told b) (shows_by (interval_told b)) after tt tells it
+retimes_stay live (Some b) device after tells it = tells_stay live device (interval_told b) (shows_by (interval_told b)) after (tt, refl) tells it
 
 -- what a change that asks no file tells
 pub told_stays : (live : Live) (it : Change) (after : Option WorldValue) → TellsChange it live.config live.guest after → IsReadyLive live
     → IsReadyLive (record live { guest = after })
 told_stays live (change.PatchDrive patch) after tells it =
-    relimits_stay live limits_told (λ l. tt) patch.rate_limiter (device_of live.config.drives patch.drive_id) after tells it
+    relimits_stay live limits_told limits_given patch.rate_limiter (device_of live.config.drives patch.drive_id) after tells it
 told_stays live (change.PatchInterface patch) after tells it =
     both_stay live patch (interface_device live.config patch.iface_id) after tells it
 told_stays live (change.PatchBalloon patch) after tells it =

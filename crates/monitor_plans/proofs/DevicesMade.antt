@@ -1,7 +1,7 @@
 -- The devices that a start makes: the interfaces behind the drives, then the vsock device, and the balloon last.
 use Rattle.std.proofs.Common.{◌≡◌, ◌≤◌, ◌<◌, ◌^◌, ◌+◌, ℕ, true, refl, sym, ap, subst, List, [], ◌∷◌, ◌++◌, length, map, Option, Some, None, ◌∙◌, get_or, arith}
 use Rattle.std.specs.Prelude.{All, nat_le, nat_lt}
-use Rattle.std.proofs.lemmas.Bool.{and_parts, leb-true, ltb-true}
+use Rattle.std.proofs.lemmas.Bool.{and_from, and_parts, leb-true, ltb-true}
 use Rattle.std.proofs.lemmas.List.{length-append, length-map}
 use Rattle.std.proofs.lemmas.List.Elements.{All-append, All-cons, All-head, All-nil, All-tail}
 use Rattle.vm_types.specs.Saved.{Saved}
@@ -21,14 +21,16 @@ use Rattle.port_table.specs.declared.kind.DeviceKind.{DeviceKind}
 use Rattle.port_table.specs.declared.kind.DeviceKind.TheVariants as numbers
 use Rattle.guest_devices.specs.declared.new_device.NewDevice.{NewDevice}
 use Rattle.guest_devices.specs.declared.new_device.NewDevice.TheVariants as starts
-use Rattle.guest_devices.specs.Devices.{FitsNew}
+use Rattle.guest_devices.specs.Moments.{IsGivenNew, are_before}
 use Rattle.guest_devices.specs.Ports.{port_at_start}
 use Rattle.flat_guest.specs.Shaped.{kinds_at_start}
 use Rattle.snap_state.specs.Valid.{is_balloon, kind_configured}
 use Rattle.flat_machine.specs.Balloon.{new_balloon}
+use Rattle.flat_machine.specs.Limits.{limits_of}
 use Rattle.flat_machine.specs.Vsock.{new_vsock}
 use Rattle.flat_machine.specs.Ready.{IsTaken}
 use Rattle.flat_machine.specs.Requests.{device_from, drive_from}
+use Rattle.flat_machine.proofs.Fresh.{limits_fresh}
 use Rattle.flat_machine.proofs.Taken.{bounded}
 use Rattle.monitor_plans.specs.Starting.{FitsDrive, net_start, with_balloon, with_others, with_vsock}
 use Rattle.monitor_plans.proofs.NetsMade.{there_below}
@@ -102,36 +104,43 @@ many_with found interfaces vsock balloon n many =
 
 -- ---- what they are
 
-drive_new : (it : NewDevice) → FitsDrive it → FitsNew it
+drive_new : (it : NewDevice) → FitsDrive it → IsGivenNew it
 drive_new (starts.Block d) fits = fits
 drive_new (starts.Net n) fits = absurd fits
 drive_new (starts.Vsock v) fits = absurd fits
 drive_new (starts.Balloon b) fits = absurd fits
 
-drives_new : (found : List NewDevice) → All FitsDrive found → All FitsNew found
+drives_new : (found : List NewDevice) → All FitsDrive found → All IsGivenNew found
 drives_new found all = λ k d lt. drive_new (get_or found k d) (all k d lt)
 
-nets_new : (interfaces : List Interface) → All FitsNew (map net_start interfaces)
-nets_new [] = All-nil FitsNew
-nets_new (i ∷ interfaces) = All-cons FitsNew (net_start i) (map net_start interfaces) tt (nets_new interfaces)
+net_given : (i : Interface) → IsGivenNew (net_start i)
+net_given i = (
+  tt,
+  and_from (are_before 0 (limits_of i.rx_rate_limiter)) (are_before 0 (limits_of i.tx_rate_limiter)) (limits_fresh i.rx_rate_limiter)
+      (limits_fresh i.tx_rate_limiter),
+)
 
-linked_new : (found : List NewDevice) (interfaces : List Interface) → All FitsDrive found → All FitsNew (found ++ map net_start interfaces)
+nets_new : (interfaces : List Interface) → All IsGivenNew (map net_start interfaces)
+nets_new [] = All-nil IsGivenNew
+nets_new (i ∷ interfaces) = All-cons IsGivenNew (net_start i) (map net_start interfaces) (net_given i) (nets_new interfaces)
+
+linked_new : (found : List NewDevice) (interfaces : List Interface) → All FitsDrive found → All IsGivenNew (found ++ map net_start interfaces)
 linked_new found interfaces all =
-    All-append FitsNew found (map net_start interfaces) (drives_new found all) (nets_new interfaces)
+    All-append IsGivenNew found (map net_start interfaces) (drives_new found all) (nets_new interfaces)
 
-vsock_new : (front : List NewDevice) (vsock : Option Vsock) → All FitsNew front → All FitsNew (with_vsock front vsock)
+vsock_new : (front : List NewDevice) (vsock : Option Vsock) → All IsGivenNew front → All IsGivenNew (with_vsock front vsock)
 vsock_new front None all = all
 vsock_new front (Some v) all =
-    All-append FitsNew front (starts.Vsock (new_vsock v) ∷ []) all (All-cons FitsNew (starts.Vsock (new_vsock v)) [] tt (All-nil FitsNew))
+    All-append IsGivenNew front (starts.Vsock (new_vsock v) ∷ []) all (All-cons IsGivenNew (starts.Vsock (new_vsock v)) [] (tt, refl) (All-nil IsGivenNew))
 
-balloon_new : (front : List NewDevice) (balloon : Option Balloon) → All FitsNew front → All FitsNew (with_balloon front balloon)
+balloon_new : (front : List NewDevice) (balloon : Option Balloon) → All IsGivenNew front → All IsGivenNew (with_balloon front balloon)
 balloon_new front None all = all
 balloon_new front (Some b) all =
-    All-append FitsNew front (starts.Balloon (new_balloon b) ∷ []) all
-    (All-cons FitsNew (starts.Balloon (new_balloon b)) [] tt (All-nil FitsNew))
+    All-append IsGivenNew front (starts.Balloon (new_balloon b) ∷ []) all
+    (All-cons IsGivenNew (starts.Balloon (new_balloon b)) [] (tt, refl) (All-nil IsGivenNew))
 
 pub fit_with : (found : List NewDevice) (interfaces : List Interface) (vsock : Option Vsock) (balloon : Option Balloon)
-    → All FitsDrive found → All FitsNew (with_others found interfaces vsock balloon)
+    → All FitsDrive found → All IsGivenNew (with_others found interfaces vsock balloon)
 fit_with found interfaces vsock balloon all =
     let linked : List NewDevice = found ++ map net_start interfaces in
     balloon_new (with_vsock linked vsock) balloon (vsock_new linked vsock (linked_new found interfaces all))

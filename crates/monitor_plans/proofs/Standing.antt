@@ -14,7 +14,7 @@ use Rattle.guest_memory.specs.Boot.{loads_fit}
 use Rattle.guest_memory.specs.Ram.{page_size}
 use Rattle.port_table.specs.declared.kind.DeviceKind.{DeviceKind}
 use Rattle.guest_devices.specs.declared.new_device.NewDevice.{NewDevice}
-use Rattle.guest_devices.specs.Devices.{FitsNew}
+use Rattle.guest_devices.specs.Moments.{IsGivenNew}
 use Rattle.guest_pages.specs.Pages.{PageValue, flat_of}
 use Rattle.flat_guest.specs.Guest.{Guest}
 use Rattle.flat_guest.specs.Shaped.{IsShaped, kinds_at_start}
@@ -41,7 +41,7 @@ some_source (Some own) there = (own, refl)
 
 pub start_ready : (config : Config) (image : List ℕ) (disk : Option (List ℕ)) (devices : List NewDevice) (w : WorldValue) → IsTaken config
     → is_some config.boot_source ≡ true → length devices ≡ device_count config
-    → kinds_at_start devices ≡ kinds_of (configuration_of config) → All FitsNew devices
+    → kinds_at_start devices ≡ kinds_of (configuration_of config) → All IsGivenNew devices
     → loads_fit config.machine.mem_size_mib (length image) (option_map length disk) ≡ true
     → IsWorld w (started config.machine.vcpu_count config.machine.mem_size_mib (loads_from config image disk) devices)
     → HasReadyGuest (changed config change.Start) false w
@@ -49,7 +49,7 @@ start_ready config image disk devices w taken there many kinds fit fits is =
     let source = some_source config.boot_source there in
     let own = taken_configured config source.0 source.1 taken in
     let within = bounded config taken in
-    let sound = sound_start config.machine.vcpu_count config.machine.mem_size_mib (loads_from config image disk) devices fit in
+    let sound = sound_start config.machine.vcpu_count config.machine.mem_size_mib (loads_from config image disk) devices (λ k d lt. (fit k d lt).0) in
     let guest : Guest =
     started config.machine.vcpu_count config.machine.mem_size_mib (loads_from config image disk) devices in (
       guest,
@@ -72,7 +72,7 @@ start_ready config image disk devices w taken there many kinds fit fits is =
               (λ (k : List DeviceKind).
               IsShaped (256 * config.machine.mem_size_mib) config.machine.vcpu_count k guest) kinds
               (shaped_start config.machine.vcpu_count config.machine.mem_size_mib (loads_from config image disk) devices within.harts
-              (booted_size config image disk within fits));
+              (booted_size config image disk within fits) (λ k d lt. (fit k d lt).1));
           devices = sym sound.devices_on.as_many ∙ length-map devices port_at_start ∙ many;
         };
         rests = λ stands. refl;

@@ -7,7 +7,7 @@ use Rattle.api_calls.specs.declared.vsock.Vsock.{Vsock}
 use Rattle.vm_config.specs.declared.config.Config.{Config}
 use Rattle.guest_devices.specs.declared.new_device.NewDevice.{NewDevice}
 use Rattle.guest_devices.specs.declared.new_device.NewDevice.TheVariants as starts
-use Rattle.guest_devices.specs.Devices.{FitsNew}
+use Rattle.guest_devices.specs.Moments.{IsGivenNew}
 use Rattle.flat_guest.specs.Start.{started}
 use Rattle.flat_machine.specs.Balloon.{new_balloon}
 use Rattle.flat_machine.specs.Interfaces.{new_net}
@@ -26,7 +26,7 @@ disk_in config saved = disk_by (initrd_name config.boot_source) saved
 
 -- it is a block device, which may start so
 abbrev pub FitsDrive : NewDevice → Type 0
-FitsDrive (starts.Block d) = FitsNew (starts.Block d)
+FitsDrive (starts.Block d) = IsGivenNew (starts.Block d)
 FitsDrive (starts.Net n) = ⊥
 FitsDrive (starts.Vsock v) = ⊥
 FitsDrive (starts.Balloon b) = ⊥

@@ -6,7 +6,7 @@ ghost use Rattle.flat_machine.specs.Vsock.{new_vsock};
 ghost use Rattle.flat_machine.specs.Requests.{devices_from, have_files};
 ghost use Rattle.flat_snapshot.specs.Copies.{configuration_of};
 ghost use Rattle.gate_file.specs.Reading.{FileCause};
-ghost use Rattle.guest_devices.specs.Devices.{FitsNew};
+ghost use Rattle.guest_devices.specs.Moments.{IsGivenNew};
 ghost use Rattle.snap_state.specs.Valid.{kinds_of};
 ghost use Rattle.vm_config.specs.Devices.{device_count};
 ghost use Rattle.vm_outside.specs.Filing.{SameFiles};
@@ -126,7 +126,7 @@ pub(crate) fn device_files<F: Files>(
         it.are_there ≡ have_files config.now.drives (F.known files.old).saved) }
     ensures many { IfOk result (λ it. length it.drives.items ≡ device_count config.now) }
     ensures kinds { IfOk result (λ it. kinds_at_start it.drives.items ≡ kinds_of (configuration_of config.now)) }
-    ensures fit { IfOk result (λ it. All FitsNew it.drives.items) }
+    ensures fit { IfOk result (λ it. All IsGivenNew it.drives.items) }
     ensures same { Tells (F.known files.old).health → SameFiles (F.known files.old) (F.known files.new) }
     ensures cause { FileCause result (F.known files.old).health.faults (F.known files.new).health.faults }
     ensures lasts { Lasts (F.known files.old).health (F.known files.new).health }

@@ -8,7 +8,7 @@ ghost use Rattle.flat_guest.specs.Start.{started};
 ghost use Rattle.flat_snapshot.specs.Copies.{configuration_of};
 ghost use Rattle.snap_state.specs.Valid.{kinds_of};
 ghost use Rattle.flat_machine.specs.Ready.{IsTaken};
-ghost use Rattle.guest_devices.specs.Devices.{FitsNew};
+ghost use Rattle.guest_devices.specs.Moments.{IsGivenNew};
 ghost use Rattle.vm_config.specs.Changes.{changed};
 ghost use Rattle.vm_config.specs.Devices.{device_count};
 ghost use Rattle.vm_config.specs.declared.change.Change.TheVariants as change;
@@ -159,7 +159,7 @@ fn guest_of(
     requires source { is_some config.now.boot_source ≡ true }
     requires many { length devices.now ≡ device_count config.now }
     requires kinds { kinds_at_start devices.now ≡ kinds_of (configuration_of config.now) }
-    requires fit { All FitsNew devices.now }
+    requires fit { All IsGivenNew devices.now }
     requires fits { loads_fit config.now.machine.mem_size_mib (length image.now) (option_map length disk.now) ≡ true }
     ensures world { IfOk result (λ guest.
         IsWorld guest (started config.now.machine.vcpu_count config.now.machine.mem_size_mib

@@ -1,5 +1,6 @@
 pub mod Headed
 pub mod Keeping
+pub mod Limits
 pub mod Narrow
 pub mod Net
 pub mod Passing

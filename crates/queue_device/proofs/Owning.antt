@@ -16,16 +16,21 @@ use Rattle.vq_split.specs.declared.queue.Why.{Why}
 use Rattle.vq_split.specs.declared.walk.Walk.{Walk}
 use Rattle.vq_split.specs.declared.walk.Walk.TheVariants as walk
 use Rattle.vq_split.specs.Chain.{chain_walk, queue_flaw, read_bytes}
+use Rattle.vq_split.specs.Walking.{walk_left}
+use Rattle.dev_core.specs.Returning.{break_left, return_left}
 use Rattle.dev_core.specs.Returns.{broken, returned}
 use Rattle.queue_device.specs.declared.lanes.Due.{Due}
 use Rattle.queue_device.specs.declared.lanes.Due.TheVariants as due
 use Rattle.queue_device.specs.declared.lanes.Rounds.{Rounds}
 use Rattle.queue_device.specs.declared.lanes.Which.{Which}
 use Rattle.queue_device.specs.declared.lanes.Which.TheVariants.{First}
+use Rattle.queue_device.specs.declared.phase.Phase.{Phase}
+use Rattle.queue_device.specs.declared.phase.Phase.TheVariants as phase
 use Rattle.queue_device.specs.Acting.{Acting, Acts, Comes}
 use Rattle.queue_device.specs.Chains.{Chain, Taken}
 use Rattle.queue_device.specs.Lanes.{busy, in_lane, is_running, lane_counted, lane_freed, lane_waiting, round_begun, round_over, with_due}
-use Rattle.queue_device.specs.Owning.{ActingMoves, Leaves}
+use Rattle.queue_device.specs.Left.{Hand, left_at, used_chain}
+use Rattle.queue_device.specs.Owning.{ActingMoves, HandLeaves, Leaves}
 use Rattle.queue_device.specs.Rounds.{answered, at_own, at_rounds, begins, begins_at, broken_off, due_from, during, given_back}
 use Rattle.queue_device.specs.Rounds.{lane, lane_begins, look_begins, looked, next_begins, on_from}
 use Rattle.queue_device.specs.Rounds.{over_begins, question_begins, queue_rules, round_broken, served, serving, taking}
@@ -221,3 +226,32 @@ module _ {E : Type 0} (s : Service E) (T : E → E → Type 0) (leaves : Leaves 
       from_of (record { rounds = d.rounds; own = passed_at s (Ends d) reply }) (root_next (begins s d) reply)
       (begins_move d.rounds.due d reply fit)
   step_moves changing (Asks d op on) reply left fit = from_of d (on d reply) (left.1 d reply fit)
+
+  -- what is left where a device is begins with its data, and moves them so
+  at_moves : (p : Phase) (h : Hand E) (d : Queued E) → HandLeaves T h → Moved d (left_at s p h d)
+  at_moves phase.Between h d hand = same d
+  at_moves phase.Question h d hand = (
+    same d,
+    λ e reply fit. moves_during (h.answering e.own reply) e e.rounds (answered s) (hand.answering e.own reply)
+        (λ f received. busy_moves received f),
+  )
+  at_moves (phase.Walk k walk) h d hand =
+      performs (walk_left walk) d (walked s k walk.queue) (λ e came. walked_moves k walk.queue e came)
+  at_moves (phase.Take c) h d hand = (
+    same d,
+    λ e reply fit. moves_during (h.taking e.own reply) e e.rounds (took s c.which c.queue c.head) (hand.taking e.own reply)
+        (λ f t. took_moves c.which c.queue c.head f t),
+  )
+  at_moves (phase.Serve c) h d hand = (
+    same d,
+    λ e reply fit. moves_during (h.serving e.own reply) e e.rounds (served s c.which c.queue c.head) (hand.serving e.own reply)
+        (λ f len. served_moves c.which c.queue c.head f len),
+  )
+  at_moves (phase.Return c len stage) h d hand =
+      performs (return_left stage (used_chain c len d.rounds)) d (λ e done. Ends (given_back s c.which e))
+      (λ e done. leaves.over c.which e.own)
+  at_moves (phase.Break k stage) h d hand =
+      performs (break_left stage d.rounds.port) d (λ e done. Ends (broken_off s k e)) (λ e done. leaves.over k e.own)
+
+  pub left_moves : (p : Phase) (h : Hand E) (d : Queued E) → HandLeaves T h → From d.own (left_at s p h d)
+  left_moves p h d hand = from_of d (left_at s p h d) (at_moves p h d hand)

@@ -6,6 +6,7 @@ use Rattle.vq_split.specs.declared.queue.Part.{Part}
 use Rattle.queue_device.specs.declared.lanes.Which.{Which}
 use Rattle.queue_device.specs.Acting.{Acting, Acts, Comes}
 use Rattle.queue_device.specs.Chains.{Chain}
+use Rattle.queue_device.specs.Left.{Hand}
 use Rattle.queue_device.specs.Service.{Service}
 
 -- each act leads from the data of the moment when its reply comes to data that T relates to them, and so do these data
@@ -24,3 +25,9 @@ pub record Leaves {E : Type 0} (s : Service E) (T : E → E → Type 0) : Type 0
   pub serve : (k : Which) (c : Chain) (e : E) → ActingMoves T e (s.serve k c e)
   pub over : (k : Which) (e : E) → T e (s.over k e)
   pub reset : (e : E) → T e (s.reset e)
+
+-- and so does the work that it has begun, wherever that leads
+pub record HandLeaves {E : Type 0} (T : E → E → Type 0) (h : Hand E) : Type 0 where
+  pub answering : (e : E) (reply : Reply) → ActingMoves T e (h.answering e reply)
+  pub taking : (e : E) (reply : Reply) → ActingMoves T e (h.taking e reply)
+  pub serving : (e : E) (reply : Reply) → ActingMoves T e (h.serving e reply)

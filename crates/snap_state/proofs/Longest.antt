@@ -20,6 +20,7 @@ use Rattle.api_calls.specs.Limits.{is_limiter}
 use Rattle.vm_config.specs.Devices.{count_in}
 use Rattle.vm_config.specs.Interfaces.{id_of_interface}
 use Rattle.vm_config.specs.Named.{are_apart}
+use Rattle.guest_devices.specs.Moments.{is_timely}
 use Rattle.file_format.specs.Kinds.{fixed, flag, number16, number64, text}
 use Rattle.file_format.specs.Identities.{identity}
 use Rattle.file_format.specs.Ends.{listed}
@@ -359,7 +360,8 @@ copy_short : (c : StateCopy) → is_valid c ≡ true → copy_most c ≤ 1342176
 unfolding is_valid
 copy_short c is =
     let harts_there = c.configuration.machine.vcpu_count in
-    let known = and_parts _ (are_sections c.sections) is in
+    let timely = and_parts _ (list_all (is_timely c.guest_time) c.devices) is in
+    let known = and_parts _ (are_sections c.sections) timely.0 in
     let rising = and_parts _ (is_rising c.reservations) known.0 in
     let reserved = and_parts _ (list_all (is_reserved c.pages harts_there) c.reservations) rising.0 in
     let devices = and_parts _ (has_devices c) reserved.0 in

@@ -9,6 +9,7 @@ use Rattle.port_table.specs.Window.{most_ports}
 use Rattle.guest_memory.specs.Reserved.{hart_limit}
 use Rattle.guest_devices.specs.declared.device.Device.{Device}
 use Rattle.guest_devices.specs.Kept.{device_pages, device_port, is_kept}
+use Rattle.guest_devices.specs.Moments.{is_timely}
 use Rattle.snap_state.specs.declared.copy.StateCopy.{StateCopy}
 use Rattle.snap_state.proofs.HasDevices.{has_parts, many_devices, many_ports}
 use Rattle.snap_state.specs.Valid.{are_devices, are_drives, are_interfaces, are_sections, has_devices, has_machine, has_room, is_balloon, is_board, is_device, is_hart, is_machine, is_mmds, is_reserved, is_rising, is_source, is_valid, is_vsock}
@@ -29,12 +30,14 @@ pub record Rules (c : StateCopy) : Type 0 where
   pub reservations : list_all (is_reserved c.pages c.configuration.machine.vcpu_count) c.reservations ≡ true
   pub rising : is_rising c.reservations ≡ true
   pub sections : are_sections c.sections ≡ true
+  pub timely : list_all (is_timely c.guest_time) c.devices ≡ true
 
 pub rules_of : (c : StateCopy) → is_valid c ≡ true → Rules c
 unfolding is_valid
 rules_of c valid =
     let m = c.configuration.machine in
-    let p14 = and_parts _ (are_sections c.sections) valid in
+    let p15 = and_parts _ (list_all (is_timely c.guest_time) c.devices) valid in
+    let p14 = and_parts _ (are_sections c.sections) p15.0 in
     let p13 = and_parts _ (is_rising c.reservations) p14.0 in
     let p12 = and_parts _ (list_all (is_reserved c.pages m.vcpu_count) c.reservations) p13.0 in
     let p11 = and_parts _ (has_devices c) p12.0 in
@@ -65,6 +68,7 @@ rules_of c valid =
       reservations = p12.1;
       rising = p13.1;
       sections = p14.1;
+      timely = p15.1;
     }
 
 -- and they are all
@@ -87,6 +91,7 @@ rules_hold c r =
       r.reservations,
       r.rising,
       r.sections,
+      r.timely,
     )
     refl
 

@@ -25,6 +25,7 @@ use Rattle.port_table.specs.declared.kind.DeviceKind.TheVariants.{Net, Block, Ba
 use Rattle.port_table.specs.Window.{most_ports}
 use Rattle.guest_devices.specs.declared.device.Device.{Device}
 use Rattle.guest_devices.specs.Kept.{device_pages, device_port, is_kept, kept_of}
+use Rattle.guest_devices.specs.Moments.{is_timely}
 use Rattle.guest_devices.specs.Ports.{number_of}
 use Rattle.rv_supervisor.specs.declared.regs.Regs.{Regs}
 use Rattle.rv_supervisor.specs.declared.csr.HartCsr.TheVariants.{Sstatus}
@@ -223,6 +224,7 @@ has_devices c =
     are_kinds (kinds_of c.configuration) 0 (map port_kind c.ports)
     && are_kinds (kinds_of c.configuration) 0 (map kind_of c.devices) && are_devices c.pages 0 c.devices
 
+-- all that a copy keeps; no request of a device passed later than guest time
 unfoldable pub is_valid : StateCopy → Bool
 is_valid c =
     is_source c.configuration.boot_source
@@ -240,3 +242,4 @@ is_valid c =
     && list_all (is_reserved c.pages c.configuration.machine.vcpu_count) c.reservations
     && is_rising c.reservations
     && are_sections c.sections
+    && list_all (is_timely c.guest_time) c.devices

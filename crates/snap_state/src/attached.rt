@@ -6,6 +6,7 @@ ghost use Rattle.api_calls.specs.Form.{is_id, is_id_byte};
 ghost use Rattle.vm_config.specs.Devices.{balloon_count, vsock_count};
 ghost use Rattle.vm_config.specs.Interfaces.{has_interface};
 ghost use Rattle.vm_config.specs.Named.{are_apart, has_named};
+ghost use Rattle.guest_devices.specs.Moments.{is_timely};
 ghost use Rattle.snap_state.specs.Valid.{are_devices, are_drives, are_interfaces, has_room, is_device, is_drive, is_interface};
 
 use crate::address::holds_mac;
@@ -169,4 +170,13 @@ pub fn are_devices(pages: u32, devices: &[Listed<SavedDevice>]) -> bool
         }
     }
     true
+}
+
+/// Whether no request of a device passed later than this time.
+pub fn are_timely(time: u64, devices: &[Listed<SavedDevice>]) -> bool
+    ensures { result ≡ list_all (is_timely time) devices.now }
+{
+    devices
+        .iter()
+        .all(|item| item.value.device().is_timely(time))
 }

@@ -9,7 +9,7 @@ ghost use Rattle.snap_state.specs.Valid.{is_before, is_rising, has_machine, has_
 ghost use Rattle.snap_state.specs.Valid.{are_sections};
 ghost use Rattle.snap_harts.specs.Copy.{regs_of};
 
-use crate::attached::{are_devices, are_drives, are_interfaces, has_room};
+use crate::attached::{are_devices, are_drives, are_interfaces, are_timely, has_room};
 use crate::balloon::holds_balloon;
 use crate::board::SavedBoard;
 use crate::configuration::BootSource;
@@ -245,4 +245,5 @@ pub fn is_valid(copy: &StateCopy) -> bool
         && are_reserved(copy.pages, harts, copy.reservations.as_slice())
         && is_rising(copy.reservations.as_slice())
         && are_sections(copy.sections.as_slice())
+        && are_timely(copy.guest_time, copy.devices.as_slice())
 }

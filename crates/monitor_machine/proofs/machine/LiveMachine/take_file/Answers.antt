@@ -5,6 +5,7 @@ use Rattle.vm_config.specs.declared.change.Change.TheVariants as change
 use Rattle.flat_machine.specs.Limits.{limits_told}
 use Rattle.flat_machine.specs.Ready.{IsFitting}
 use Rattle.flat_machine.specs.Requests.{shows_by}
+use Rattle.flat_machine.proofs.Fresh.{limits_given}
 use Rattle.monitor_machine.specs.Live.{Live}
 use Rattle.monitor_machine.specs.Seen.{live_of}
 use Rattle.monitor_machine.proofs.Configured.{applied_is, applied_stays}
@@ -25,9 +26,9 @@ invariant_of-self c =
     applied_stays (record (live_of c.self.inside) { guest = c.tell_limits.new.guest }) (change.PatchDrive resize.patch) c.apply-applied.result
     c.apply-applied.new.self c.apply-applied.ensures.ok c.apply-applied.ensures.err
     (subst (λ (k : Config). IsFitting k (change.PatchDrive resize.patch)) (sym (ap (λ (l : Live). l.config) c.self.view_is)) c.requires) tt
-    (relimits_stay told limits_told (λ l. tt) resize.patch.rate_limiter resize.device c.tell_limits.new.guest c.tell_limits.ensures
+    (relimits_stay told limits_told limits_given resize.patch.rate_limiter resize.device c.tell_limits.new.guest c.tell_limits.ensures
     (tells_stay (live_of c.self.inside) resize.device (sectors_change resize.sectors) (shows_by (sectors_change resize.sectors))
-    c.tell_sectors.new.guest c.tell_sectors.ensures.fits c.tell_sectors.ensures.resizes c.self.invariant))
+    c.tell_sectors.new.guest (c.tell_sectors.ensures.fits, refl) c.tell_sectors.ensures.resizes c.self.invariant))
 
 pub returns : goal.returns
 returns c =
