@@ -51,8 +51,9 @@ def injected_words(program, name, error, number, log):
 
 
 def calls_in(log):
-    """Each call of a log: its name, which of that name it is, and which call on the creates' files it is, from 1; 0 for another one."""
-    calls, counts, on_files = [], {}, 0
+    """Each call of a log from the first read of the input on: its name, which of that name it is, and which call on the creates' files it is, from 1;
+    0 for another one. Calls before that are the system's, as it begins a program."""
+    calls, counts, on_files, has_begun = [], {}, 0, False
     with open(log, encoding="latin-1") as file:
         for line in file:
             word = re.match(r"\d+\s+(\w+)\(", line)
@@ -61,5 +62,7 @@ def calls_in(log):
             counts[word[1]] = counts.get(word[1], 0) + 1
             is_of_create = any(f"/{it}>" in line or f'"{it}"' in line for it in CREATED)
             on_files += is_of_create
-            calls.append((word[1], counts[word[1]], on_files if is_of_create else 0))
+            has_begun = has_begun or re.search(r"read\(0[<,]", line) is not None
+            if has_begun:
+                calls.append((word[1], counts[word[1]], on_files if is_of_create else 0))
     return calls

@@ -230,7 +230,7 @@ def misbehave(checks, folder):
         got = unread.taken(64 * MIB)
         checks.same("it gets a beginning", True, 0 < len(got) < MIB and got == generated(len(got)))
         flooding = [opened(path, DISCARD) for _ in range(8)]
-        writers = [threading.Thread(target=it.stream.sendall, args=(bytes(MIB // 4),)) for it in flooding]
+        writers = [threading.Thread(target=it.stream.sendall, args=(bytes(MIB // 16),)) for it in flooding]
         for it in writers:
             it.start()
         good("floods")

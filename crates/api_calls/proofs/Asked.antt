@@ -39,9 +39,9 @@ IsAsked (call.PatchInterface patch) =
     (is_id patch.iface_id ≡ true)
     × ((holds is_limiter patch.rx_rate_limiter ≡ true) × (holds is_limiter patch.tx_rate_limiter ≡ true))
 IsAsked (call.PutVsock vsock) = IsWithin 3 4294967294 vsock.guest_cid × (is_path vsock.uds_path ≡ true)
-IsAsked (call.PutMachineConfig machine) = IsWithin 1 32 machine.vcpu_count × IsWithin 4 1024 machine.mem_size_mib
+IsAsked (call.PutMachineConfig machine) = IsWithin 1 32 machine.vcpu_count × IsWithin 4 4096 machine.mem_size_mib
 IsAsked (call.PatchMachineConfig patch) =
-    ((n : ℕ) → patch.vcpu_count ≡ Some n → IsWithin 1 32 n) × ((n : ℕ) → patch.mem_size_mib ≡ Some n → IsWithin 4 1024 n)
+    ((n : ℕ) → patch.vcpu_count ≡ Some n → IsWithin 1 32 n) × ((n : ℕ) → patch.mem_size_mib ≡ Some n → IsWithin 4 4096 n)
 IsAsked (call.PutBalloon balloon) = balloon.stats_polling_interval_s < 2 ^ 16
 IsAsked (call.PatchBalloon patch) = ⊤
 IsAsked (call.PatchStatistics patch) = patch.stats_polling_interval_s < 2 ^ 16

@@ -106,7 +106,7 @@ source_is ms none =
 abbrev pub IsMachine : Data → Type 0
 IsMachine d =
     IsWithin 1 32 (unwrap_or (number_at (codes "vcpu_count") d) 0)
-    × IsWithin 4 1024 (unwrap_or (number_at (codes "mem_size_mib") d) 0)
+    × IsWithin 4 4096 (unwrap_or (number_at (codes "mem_size_mib") d) 0)
 
 pub machine_is : (ms : Members) → refusal machine_config (object ms) ≡ None → IsMachine (object ms)
 unfolding object_passes row_passes
@@ -116,14 +116,14 @@ machine_is ms none =
     let kind = (form_parts _ _ _ (object ms) test.Kind all.1).0 in
     let range = (form_parts _ _ _ (object ms) test.Range all.2).0 in (
       needed_number 1 32 (get (codes "vcpu_count") (object ms)) (and_parts _ _ there).0 (and_parts _ _ kind).0 (and_parts _ _ range).0,
-      needed_number 4 1024 (get (codes "mem_size_mib") (object ms)) (and_parts _ _ (and_parts _ _ there).1).0
+      needed_number 4 4096 (get (codes "mem_size_mib") (object ms)) (and_parts _ _ (and_parts _ _ there).1).0
           (and_parts _ _ (and_parts _ _ kind).1).0 (and_parts _ _ (and_parts _ _ range).1).0,
     )
 
 abbrev pub IsMachinePatch : Data → Type 0
 IsMachinePatch d =
     ((n : ℕ) → number_at (codes "vcpu_count") d ≡ Some n → IsWithin 1 32 n)
-    × ((n : ℕ) → number_at (codes "mem_size_mib") d ≡ Some n → IsWithin 4 1024 n)
+    × ((n : ℕ) → number_at (codes "mem_size_mib") d ≡ Some n → IsWithin 4 4096 n)
 
 pub machine_patch_is : (ms : Members) → refusal machine_patch (object ms) ≡ None → IsMachinePatch (object ms)
 unfolding object_passes row_passes
@@ -132,7 +132,7 @@ machine_patch_is ms none =
     let kind = (form_parts _ _ _ (object ms) test.Kind all.1).0 in
     let range = (form_parts _ _ _ (object ms) test.Range all.2).0 in (
       optional_number 1 32 (get (codes "vcpu_count") (object ms)) (and_parts _ _ kind).0 (and_parts _ _ range).0,
-      optional_number 4 1024 (get (codes "mem_size_mib") (object ms)) (and_parts _ _ (and_parts _ _ kind).1).0
+      optional_number 4 4096 (get (codes "mem_size_mib") (object ms)) (and_parts _ _ (and_parts _ _ kind).1).0
           (and_parts _ _ (and_parts _ _ range).1).0,
     )
 

@@ -113,11 +113,11 @@ vsock = flat (
     ∷ optional (codes "vsock_id") (text 65536)
     ∷ []) free
 
--- PUT /machine-config: 1 to 32 harts, 4 to 1,024 MiB
+-- PUT /machine-config: 1 to 32 harts, 4 to 4,096 MiB
 abbrev pub machine_config : Form
 machine_config = flat (
     needed (codes "vcpu_count") (whole 1 32)
-    ∷ needed (codes "mem_size_mib") (whole 4 1024)
+    ∷ needed (codes "mem_size_mib") (whole 4 4096)
     ∷ optional (codes "smt") unset
     ∷ optional (codes "track_dirty_pages") flag
     ∷ optional (codes "cpu_template") none_alone
@@ -128,7 +128,7 @@ machine_config = flat (
 abbrev pub machine_patch : Form
 machine_patch = flat (
     optional (codes "vcpu_count") (whole 1 32)
-    ∷ optional (codes "mem_size_mib") (whole 4 1024)
+    ∷ optional (codes "mem_size_mib") (whole 4 4096)
     ∷ optional (codes "smt") unset
     ∷ optional (codes "track_dirty_pages") flag
     ∷ optional (codes "cpu_template") none_alone

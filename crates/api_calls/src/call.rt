@@ -94,7 +94,7 @@ pub struct DrivePatch {
 pub struct MachineConfig {
     /// The number of harts.
     pub vcpu_count: u64,
-    /// The memory in MiB, from 4 to 1,024.
+    /// The memory in MiB, from 4 to 4,096.
     pub mem_size_mib: u64,
     /// Whether the pages that the guest writes are marked for diff snapshots.
     pub track_dirty_pages: bool,

@@ -95,14 +95,14 @@ pub fn sources_are_short()
         is_utf8 source.boot_args ≡ true }
 {}
 
-/// A machine has 1 to 32 harts and 4 to 1,024 MiB of memory, by a PUT and by what a PATCH gives.
+/// A machine has 1 to 32 harts and 4 to 4,096 MiB of memory, by a PUT and by what a PATCH gives.
 pub fn machines_are_in_range()
     ensures harts { (r : Request) (machine : MachineConfig) → call_of r ≡ Ok (call.PutMachineConfig machine) →
         (1 ≤ machine.vcpu_count) × (machine.vcpu_count ≤ 32) }
     ensures mib { (r : Request) (machine : MachineConfig) → call_of r ≡ Ok (call.PutMachineConfig machine) →
-        (4 ≤ machine.mem_size_mib) × (machine.mem_size_mib ≤ 1024) }
+        (4 ≤ machine.mem_size_mib) × (machine.mem_size_mib ≤ 4096) }
     ensures patched_harts { (r : Request) (patch : MachinePatch) (n : ℕ) →
         call_of r ≡ Ok (call.PatchMachineConfig patch) → patch.vcpu_count ≡ Some n → (1 ≤ n) × (n ≤ 32) }
     ensures patched_mib { (r : Request) (patch : MachinePatch) (n : ℕ) →
-        call_of r ≡ Ok (call.PatchMachineConfig patch) → patch.mem_size_mib ≡ Some n → (4 ≤ n) × (n ≤ 1024) }
+        call_of r ≡ Ok (call.PatchMachineConfig patch) → patch.mem_size_mib ≡ Some n → (4 ≤ n) × (n ≤ 4096) }
 {}

@@ -14,7 +14,7 @@ const MOST_HARTS: u64 = 32;
 
 const LEAST_MIB: u64 = 4;
 
-const MOST_MIB: u64 = 1024;
+const MOST_MIB: u64 = 4096;
 
 const PUT_ROWS: [Row; 6] = [
     Row {

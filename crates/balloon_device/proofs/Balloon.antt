@@ -32,7 +32,7 @@ module _ (port pages : ℕ) where
       → Keeps (IsDeviceAct false no_call port pages) (Any {A = Unit {0}}) (zeros count at)
   zeros_keep zero at low high = tt
   zeros_keep (suc count) at low high = (
-    (λ few. in_ram pages at 64 low (omega (arith, high few)), inr (tt, tt)),
+    (λ few. in_ram pages at 64 low (omega (arith, high few)) (omega arith), inr (tt, tt)),
     λ reply fit. zeros_keep count (at + 64) (omega (arith, low)) (λ few. omega (arith, high few)),
   )
 

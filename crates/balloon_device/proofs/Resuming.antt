@@ -20,7 +20,7 @@ use Rattle.dev_core.specs.declared.collect.Collect.{Collect}
 use Rattle.dev_core.specs.Inside.{Any}
 use Rattle.dev_core.specs.Pieces.{past, place, readable, room, total}
 use Rattle.dev_core.proofs.Bytes as bytes
-use Rattle.dev_core.proofs.Fuel.{bytes_fit}
+use Rattle.vq_split.proofs.Steps.{bytes_fit}
 use Rattle.dev_core.proofs.Inside.{filter_inside, past_inside}
 use Rattle.queue_device.specs.declared.lanes.Which.{Which}
 use Rattle.queue_device.specs.declared.lanes.Which.TheVariants.{First, Second, Third}

@@ -96,7 +96,7 @@ test_of_zeroes pages list left at is =
     and_from _ _
     (and_from _ _
     (and_from _ _
-    (and_from _ _ (and_from _ _ (lt-ltb _ _ is.some) (le-leb _ _ is.most)) (in_ram pages at (64 * left) is.low is.high))
+    (and_from _ _ (and_from _ _ (lt-ltb _ _ is.some) (le-leb _ _ is.most)) (in_ram pages at (64 * left) is.low is.high (omega (arith, is.most))))
     (lt-ltb _ _ is.short)) (are_of pages list.from is.inside))
     (le-leb _ _ is.few)
 

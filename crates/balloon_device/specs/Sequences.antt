@@ -69,6 +69,7 @@ looks first second third = did (Port 3 Look) (Reply.Port (record {
   first = queue_at 0x80002000 first;
   second = queue_at 0x80003000 second;
   third = queue_at 0x80004000 third;
+  accepted = record { indirect = false; event_index = false };
   status = 15;
   was_reset = false;
 }))

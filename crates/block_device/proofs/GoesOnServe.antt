@@ -14,7 +14,8 @@ use Rattle.vq_split.specs.Inside.{AreInside}
 use Rattle.dev_core.specs.declared.collect.Collect.{Collect}
 use Rattle.dev_core.specs.Collecting.{nothing}
 use Rattle.dev_core.specs.Pieces.{Got, past, place, put_all, room, share}
-use Rattle.dev_core.proofs.Fuel.{bytes_fit, collect_done, collect_led, put_done, some_of}
+use Rattle.vq_split.proofs.Steps.{bytes_fit}
+use Rattle.dev_core.proofs.Fuel.{collect_done, collect_led, put_done, some_of}
 use Rattle.dev_core.proofs.Inside.{past_inside}
 use Rattle.queue_device.specs.Chains.{got_of}
 use Rattle.queue_device.specs.Sizes.{IsReplyTo}

@@ -50,7 +50,7 @@ waiting_lane = record new_lane {
   next = 1;
   is_kicked = true;
   waiting = Some (record {
-    queue = record { descriptors = 0x80002000; available = 0x80002100; used = 0x80002200; size = 4; pages = 1024 };
+    queue = record { descriptors = 0x80002000; available = 0x80002100; used = 0x80002200; size = 4; pages = 1024; accepted = record { indirect = false; event_index = false } };
     head = 0;
     parts = record { at = 0x80001100; len = 512; writable = true } ∷ record { at = 0x80001300; len = 1; writable = true } ∷ [];
     got = record { bytes = replicate 16 0; parts = [] };
@@ -92,6 +92,7 @@ looks is_kicked = did (Port 3 Look) (Reply.Port (record {
   };
   second = no_queue;
   third = no_queue;
+  accepted = record { indirect = false; event_index = false };
   status = 15;
   was_reset = false;
 }))
@@ -181,5 +182,5 @@ abbrev pub until_reset : List (Item BlockChange)
 until_reset =
     first_waits
     ++ did (Port 3 Look) (Reply.Port
-    (record { first = no_queue; second = no_queue; third = no_queue; status = 0; was_reset = true }))
+    (record { first = no_queue; second = no_queue; third = no_queue; accepted = record { indirect = false; event_index = false }; status = 0; was_reset = true }))
     ∷ waited ∷ []

@@ -11,9 +11,10 @@ use Rattle.vq_split.specs.declared.queue.Part.{Part}
 use Rattle.vq_split.specs.Chain.{is_inside, read_bytes}
 use Rattle.vq_split.specs.Inside.{IsInside, AreInside}
 use Rattle.vq_split.specs.Walking.{IsSound}
-use Rattle.vq_split.proofs.Inside.{in_ram, of_ram}
+use Rattle.vq_split.specs.Chain.{index_in, used_event}
+use Rattle.vq_split.proofs.Inside.{event_two, in_ram, of_len, of_ram}
 use Rattle.dev_core.specs.Pieces.{Got, room, place, past, share, last_byte, collect, collect_all, put, put_all}
-use Rattle.dev_core.specs.Returns.{broke, broken, index_written, length_written, pair_place, returned}
+use Rattle.dev_core.specs.Returns.{broke, broken, event_read, index_written, interrupted, length_written, pair_place, returned, told}
 use Rattle.dev_core.specs.Inside.{Any}
 use Rattle.dev_core.proofs.Fuel.{some_of}
 
@@ -23,7 +24,8 @@ pub piece_inside : (pages n : ℕ) (parts : List Part) → AreInside pages parts
 piece_inside pages n [] inside some short = absurd (omega arith)
 piece_inside pages n (part ∷ parts) inside some short =
     let r = of_ram pages part.at part.len inside.1 in
-    in_ram pages part.at n r.0 (omega (arith, r))
+    let few = of_len pages part.at part.len inside.1 in
+    in_ram pages part.at n r.0 (omega (arith, r)) (omega (arith, few))
 
 past_if : (pages n : ℕ) (part : Part) (parts : List Part) (test : Bool) → test ≡ (part.len == n) → pages < 2 ^ 32
     → AreInside pages (part ∷ parts) → n ≤ part.len
@@ -33,10 +35,11 @@ past_if pages n part parts true is few inside short = inside.2
 past_if pages n part parts false is few inside short =
     let r = of_ram pages part.at part.len inside.1 in
     let apart : part.len ≡ n → ⊥ = grind arith in
+    let most = of_len pages part.at part.len inside.1 in
     let place_is : (part.at + n) % 2 ^ 64 ≡ part.at + n = omega (arith, r) in (
       omega (arith, apart),
       (rw place_is (in_ram pages (part.at + n) (part.len - n) (omega (arith, r))
-          (omega (arith, r)))),
+          (omega (arith, r)) (omega (arith, most)))),
       inside.2,
     )
 
@@ -92,7 +95,7 @@ last_inside : (pages : ℕ) → pages < 2 ^ 32 → (at : ℕ) (part : Part) (par
 last_inside pages few at part [] inside =
     let r = of_ram pages part.at part.len inside.1 in
     let place : (part.at + (part.len - 1)) % 2 ^ 64 ≡ part.at + (part.len - 1) = omega (arith, r, inside.0) in
-    rw place (in_ram pages (part.at + (part.len - 1)) 1 (omega (arith, r)) (omega (arith, r, inside.0)))
+    rw place (in_ram pages (part.at + (part.len - 1)) 1 (omega (arith, r)) (omega (arith, r, inside.0)) (omega arith))
 last_inside pages few at part (p ∷ parts) inside = last_inside pages few
     ((part.at + (part.len - 1)) % 2 ^ 64) p parts inside.2
 
@@ -113,13 +116,31 @@ filter_inside pages test [] inside = tt
 filter_inside pages test (part ∷ parts) inside = kept_if pages (test part) part (filter test parts) inside.0 inside.1
     (filter_inside pages test parts inside.2)
 
--- giving a chain back
+-- giving a chain back: the interrupt touches no page
+interrupt_keeps : (pages port : ℕ) → Keeps (IsInside pages) (Any {A = Unit {0}}) (interrupted port)
+interrupt_keeps pages port = (tt, λ a b. (tt, λ e f. tt))
+
+-- the driver's event stands behind the available ring
+pub event_keeps : (port : ℕ) (q : Queue) (used : ℕ) → IsSound q → q.accepted.event_index ≡ true
+    → Keeps (IsInside q.pages) (Any {A = Unit {0}}) (event_read port q used)
+event_keeps port q used sound has =
+    let two = event_two q has in (
+      in_ram q.pages (used_event q) 2 (omega (arith, sound.tables.available_in)) (omega (arith, sound.tables.available_in, two)) (omega arith),
+      λ reply fit. keeps_if (IsInside q.pages) (Any {A = Unit {0}}) (used == index_in reply) _ _ _ refl
+          (λ asked. interrupt_keeps q.pages port) (λ not_asked. tt),
+    )
+
+told_keeps : (port : ℕ) (q : Queue) (used : ℕ) → IsSound q → Keeps (IsInside q.pages) (Any {A = Unit {0}}) (told port q used)
+told_keeps port q used sound =
+    keeps_if (IsInside q.pages) (Any {A = Unit {0}}) q.accepted.event_index _ _ _ refl (λ has. event_keeps port q used sound has)
+    (λ hasnt. interrupt_keeps q.pages port)
+
 pub index_keeps : (port : ℕ) (q : Queue) (used : ℕ) → IsSound q
     → Keeps (IsInside q.pages) (Any {A = Unit {0}}) (index_written port q used)
 index_keeps port q used sound =
     let index = in_ram q.pages (q.used + 2) 2 (omega (arith, sound.tables.used_in))
-    (omega (arith, sound.tables.used_in)) in
-    (index, λ e f. (tt, λ g h. (tt, λ i j. tt)))
+    (omega (arith, sound.tables.used_in)) (omega arith) in
+    (index, λ e f. told_keeps port q used sound)
 
 pair_low : (q : Queue) (used : ℕ) → IsSound q → 0x80000000 ≤ pair_place q used
 pair_low q used sound = omega (arith, sound.tables.used_in)
@@ -131,7 +152,7 @@ pub length_keeps : (port : ℕ) (q : Queue) (used len : ℕ) → IsSound q
     → Keeps (IsInside q.pages) (Any {A = Unit {0}}) (length_written port q used len)
 length_keeps port q used len sound = (
   in_ram q.pages (pair_place q used + 4) 4 (omega (arith, pair_low q used sound))
-      (omega (arith, pair_high q used sound)),
+      (omega (arith, pair_high q used sound)) (omega arith),
   λ c d. index_keeps port q used sound,
 )
 
@@ -142,10 +163,10 @@ returned_keeps port q used head len sound =
     let high = pair_high q used sound in
     keeps_if (IsInside q.pages) (Any {A = Unit {0}}) (pair_place q used % 4096 == 4092) _ _ _ refl
     (λ cut. (
-      in_ram q.pages (pair_place q used) 4 low (omega (arith, high)),
+      in_ram q.pages (pair_place q used) 4 low (omega (arith, high)) (omega arith),
       λ a b. length_keeps port q used len sound,
     ))
-    (λ whole. (in_ram q.pages (pair_place q used) 8 low high, λ c d. index_keeps port q used sound))
+    (λ whole. (in_ram q.pages (pair_place q used) 8 low high (omega arith), λ c d. index_keeps port q used sound))
 
 broke_keeps : (pages : ℕ) (reply : Reply) → Keeps (IsInside pages) (Any {A = Unit {0}}) (broke reply)
 broke_keeps pages (Word raised) =

@@ -2,12 +2,12 @@
 ghost use Rattle.std.specs.Prelude.{◌≡◌};
 ghost use Rattle.dev_core.specs.Looks.{is_workable, no_queue, queue_shown};
 
-use vm_types::QueueShown;
+use vm_types::{Accepted, QueueShown};
 use vq_split::Queue;
 
 /// The queue that a look shows, in a guest of this many pages.
-pub fn queue_shown(pages: u32, shown: &QueueShown) -> Queue
-    ensures { result ≡ queue_shown pages shown.now }
+pub fn queue_shown(pages: u32, accepted: Accepted, shown: &QueueShown) -> Queue
+    ensures { result ≡ queue_shown pages accepted shown.now }
 {
     Queue {
         descriptors: shown.descriptors,
@@ -15,6 +15,7 @@ pub fn queue_shown(pages: u32, shown: &QueueShown) -> Queue
         used: shown.used,
         size: shown.size,
         pages,
+        accepted,
     }
 }
 
@@ -28,6 +29,10 @@ pub fn no_queue(pages: u32) -> Queue
         used: 0,
         size: 0,
         pages,
+        accepted: Accepted {
+            indirect: false,
+            event_index: false,
+        },
     }
 }
 

@@ -31,7 +31,7 @@ no_queue = record { descriptors = 0; available = 0; used = 0; size = 0; is_ready
 
 fits_port : (act : PortOp) → (reply : Reply) × (port_fits act reply ≡ true)
 fits_port port.Look = (
-  Reply.Port (record { first = no_queue; second = no_queue; third = no_queue; status = 0; was_reset = false }),
+  Reply.Port (record { first = no_queue; second = no_queue; third = no_queue; accepted = record { indirect = false; event_index = false }; status = 0; was_reset = false }),
   refl,
 )
 fits_port (port.Interrupt causes) = (Reply.Done, refl)

@@ -41,7 +41,7 @@ waiting_lane = record new_lane {
   next = 1;
   is_kicked = true;
   waiting = Some (record {
-    queue = record { descriptors = 0x80002000; available = 0x80002100; used = 0x80002200; size = 4; pages = 1024 };
+    queue = record { descriptors = 0x80002000; available = 0x80002100; used = 0x80002200; size = 4; pages = 1024; accepted = record { indirect = false; event_index = false } };
     head = 0;
     parts = record { at = 0x80001000; len = 64; writable = true } ∷ [];
     got = no_bytes;
@@ -85,6 +85,7 @@ looks first second = did (Port 3 Look) (Reply.Port (record {
   first = queue_at 0x80002000 first;
   second = queue_at 0x80003000 second;
   third = no_queue;
+  accepted = record { indirect = false; event_index = false };
   status = 15;
   was_reset = false;
 }))
@@ -149,7 +150,7 @@ abbrev pub until_reset : List (Item FillerChange)
 until_reset =
     first_waits
     ++ did (Port 3 Look) (Reply.Port
-    (record { first = no_queue; second = no_queue; third = no_queue; status = 0; was_reset = true }))
+    (record { first = no_queue; second = no_queue; third = no_queue; accepted = record { indirect = false; event_index = false }; status = 0; was_reset = true }))
     ∷ waited ∷ []
 
 -- a chain of the second queue goes on meanwhile, one readable part of one byte, which is 7

@@ -331,14 +331,14 @@ start_ports [] = All-nil IsSizedPort
 start_ports (what ∷ others) =
     All-cons IsSizedPort (port_at_start what) (map port_at_start others) (port_start_kept what) (start_ports others)
 
-starts_kept : (harts mib pages : ℕ) → mib ≤ 1024 → All (λ (r : Regs). IsKept (page_size * pages) (fresh r)) (start_of_harts harts mib)
+starts_kept : (harts mib pages : ℕ) → mib ≤ 4096 → All (λ (r : Regs). IsKept (page_size * pages) (fresh r)) (start_of_harts harts mib)
 starts_kept harts mib pages few =
     let size : ℕ = page_size * pages in
     All-set (λ (r : Regs). IsKept size (fresh r)) (replicate harts stopped_regs) 0 (start_regs image_start 0 (tree_start mib))
     (start_kept size image_start 0 (tree_start mib) (omega arith) refl (omega arith) (omega (arith, few)))
     (All-replicate (λ (r : Regs). IsKept size (fresh r)) harts stopped_regs (stopped_kept size))
 
-pub savable_start : (harts mib : ℕ) (loads : Loads) (devices : List NewDevice) → harts ≤ hart_limit → mib ≤ 1024
+pub savable_start : (harts mib : ℕ) (loads : Loads) (devices : List NewDevice) → harts ≤ hart_limit → mib ≤ 4096
     → memory_kept.AreLoads loads → length (boot_memory mib loads).bytes ≡ bytes_of_mib mib
     → IsSavable (256 * mib) harts (started harts mib loads devices)
 savable_start harts mib loads devices few small all whole = record {

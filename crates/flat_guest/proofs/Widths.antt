@@ -44,7 +44,7 @@ started_narrow pages n (what ∷ others) (suc k) d few narrow is =
     subst (λ (i : ℕ). IsNarrowDevice i pages d) next
     (started_narrow pages (suc n) others k d few (All-tail IsNarrowNew what others narrow) is)
 
-pub widths_start : (harts mib : ℕ) (loads : Loads) (all : List NewDevice) → harts ≤ hart_limit → mib ≤ 1024
+pub widths_start : (harts mib : ℕ) (loads : Loads) (all : List NewDevice) → harts ≤ hart_limit → mib ≤ 4096
     → memory_kept.AreLoads loads → length (boot_memory mib loads).bytes ≡ bytes_of_mib mib → All IsNarrowNew all
     → HasWidths (256 * mib) harts (started harts mib loads all)
 widths_start harts mib loads all few small bytes whole narrow =

@@ -46,25 +46,25 @@ use Rattle.flat_machine.proofs.Mmds.{mmds_given, mmds_patched, mmds_put}
 -- ---- within bounds
 
 pub record IsBounded (config : Config) : Type 0 where
-  pub mib : config.machine.mem_size_mib ≤ 1024
+  pub mib : config.machine.mem_size_mib ≤ 4096
   pub harts : config.machine.vcpu_count ≤ 32
   pub args : length (args_by config.boot_source) ≤ 2048
   pub drives : device_count config ≤ 16
 
-machine_is : (m : MachineConfig) → IsWithin 1 32 m.vcpu_count → IsWithin 4 1024 m.mem_size_mib → is_machine m ≡ true
+machine_is : (m : MachineConfig) → IsWithin 1 32 m.vcpu_count → IsWithin 4 4096 m.mem_size_mib → is_machine m ≡ true
 machine_is m harts mib =
-    and_from _ (nat_le m.mem_size_mib 1024)
+    and_from _ (nat_le m.mem_size_mib 4096)
     (and_from _ (nat_le 4 m.mem_size_mib)
     (and_from (nat_le 1 m.vcpu_count) (nat_le m.vcpu_count 32) (le-leb 1 m.vcpu_count harts.0) (le-leb m.vcpu_count 32 harts.1))
-    (le-leb 4 m.mem_size_mib mib.0)) (le-leb m.mem_size_mib 1024 mib.1)
+    (le-leb 4 m.mem_size_mib mib.0)) (le-leb m.mem_size_mib 4096 mib.1)
 
-machine_within : (m : MachineConfig) → is_machine m ≡ true → IsWithin 1 32 m.vcpu_count × IsWithin 4 1024 m.mem_size_mib
+machine_within : (m : MachineConfig) → is_machine m ≡ true → IsWithin 1 32 m.vcpu_count × IsWithin 4 4096 m.mem_size_mib
 machine_within m is =
-    let large = and_parts _ (nat_le m.mem_size_mib 1024) is in
+    let large = and_parts _ (nat_le m.mem_size_mib 4096) is in
     let some = and_parts _ (nat_le 4 m.mem_size_mib) large.0 in
     let harts = and_parts (nat_le 1 m.vcpu_count) (nat_le m.vcpu_count 32) some.0 in (
       (leb-true 1 m.vcpu_count harts.0, leb-true m.vcpu_count 32 harts.1),
-      (leb-true 4 m.mem_size_mib some.1, leb-true m.mem_size_mib 1024 large.1),
+      (leb-true 4 m.mem_size_mib some.1, leb-true m.mem_size_mib 4096 large.1),
     )
 
 args_few : (source : Option BootSource) → IsSourceBy source → length (args_by source) ≤ 2048
@@ -193,7 +193,7 @@ module _ (p : Phase) (config : Config) (ids : Ids) (taken : IsTaken config) wher
   call_fits (call.PatchMachineConfig patch) asked own =
       let old = machine_within config.machine taken.machine in (
         machine_is (patched config.machine patch) (given_within patch.vcpu_count config.machine.vcpu_count 1 32 old.0 asked.0)
-            (given_within patch.mem_size_mib config.machine.mem_size_mib 4 1024 old.1 asked.1),
+            (given_within patch.mem_size_mib config.machine.mem_size_mib 4 4096 old.1 asked.1),
         amount_fits (patched config.machine patch).mem_size_mib config.machine.mem_size_mib config.balloon
             (within _ _ (only_row _ _ own)) taken.balloon,
       )

@@ -85,7 +85,7 @@ use Rattle.flat_machine.proofs.TakenTexts.{taken_args}
 widths_is : (m n : Machine) → n ≡ m → HasWidths m → HasWidths n
 widths_is m n is widths = subst (λ (q : Machine). HasWidths q) (sym is) widths
 
--- at most 2^18 pages
+-- at most 2^20 pages
 few_pages : (m : Machine) → Ready m → 256 * m.config.machine.mem_size_mib ≤ 2 ^ 20
 few_pages m ready =
     let mib = (bounded m.config ready.taken).mib in

@@ -28,16 +28,16 @@ use Rattle.snap_harts.specs.declared.hart.SavedHart.{SavedHart}
 use Rattle.snap_harts.specs.declared.hart.HartPlace.{HartPlace}
 use Rattle.snap_harts.specs.declared.hart.HartPlace.TheVariants.{Begin, BeginWaiting, Idle, IdleWaiting, Access}
 use Rattle.snap_state.specs.declared.copy.Reservation.{Reservation}
-use Rattle.snap_state.specs.declared.copy.Section.{Section}
 use Rattle.snap_state.specs.declared.copy.StateCopy.{StateCopy}
 use Rattle.snap_state.specs.Copies.{state_copy}
 use Rattle.snap_harts.specs.Copy.{begun_at, hart_of, regs_of, saved_hart, turn_of}
 use Rattle.snap_state.specs.Copy.{harts_of}
 use Rattle.snap_state.specs.Files.{IsSaved}
 use Rattle.snap_harts.specs.Harts.{hart, place}
-use Rattle.snap_state.specs.Valid.{are_devices, are_sections, asks, is_before, is_device, is_hart, is_reserved, is_rising, rises_from}
+use Rattle.snap_state.specs.Valid.{are_devices, asks, is_before, is_device, is_hart, is_reserved, is_rising, rises_from}
 use Rattle.snap_state.proofs.Parts.{hart_again}
 use Rattle.snap_state.proofs.Rules.{attached, device_of, few_harts, rules_of}
+use Rattle.snap_state.proofs.Sectioned.{sections_known}
 use Rattle.flat_snapshot.specs.Copies.{AreHarts, AreKept, IsCopyOf, reservations_from}
 use Rattle.flat_snapshot.specs.Carried.{carried_config, carried_guest, hart_steps, resumed, slots_with, steps_at, steps_from, with_tracking}
 use Rattle.flat_snapshot.proofs.GoesOn.{access_fetches}
@@ -224,11 +224,6 @@ pub harts_fit : (v : Version) (c : StateCopy) → (state_copy v).Fits c → AllB
 unfolding state_copy list_of
 harts_fit v c fits = fits.1.1.0.1
 
--- no tag is known, so it has no section
-none_known : (sections : List Section) → are_sections sections ≡ true → sections ≡ []
-none_known [] is = refl
-none_known (section ∷ others) is = cc
-
 pub copied_again : (version : Version) (identity : Identity) (c : StateCopy) (bytes : List ℕ) (tracking : Bool)
     → IsSaved version (record { identity = identity; copy = c })
     → length bytes ≡ page_size * c.pages
@@ -238,7 +233,7 @@ copied_again version identity c bytes tracking saved whole =
     let pages : c.pages ≡ length bytes / page_size = omega (arith, whole) in
     let harts = sym (harts_again c.pages c.harts parts.harts) in
     let reserved = sym (reserved_again c.pages c.configuration.machine.vcpu_count (few_harts c parts) c.reservations parts.reservations parts.rising) in
-    let sections = none_known c.sections parts.sections in
+    let sections = sections_known c.ports c.sections parts.sections in
     let first : (i : ℕ) → steps_from c.harts (HartId (0 + i)) ≡ hart_steps (slice_get c.harts i) = λ i.
     let same : 0 + i ≡ i = omega arith in
     ap (λ (n : ℕ). hart_steps (slice_get c.harts n)) same in (

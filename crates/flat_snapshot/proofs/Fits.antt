@@ -35,9 +35,10 @@ use Rattle.snap_state.specs.declared.copy.StateCopy.{StateCopy}
 use Rattle.snap_state.specs.Copies.{devices, reservation, section, sections_in, state_copy}
 use Rattle.snap_state.specs.Files.{contents, contents_of}
 use Rattle.snap_state.specs.Valid.{is_machine, is_valid}
-use Rattle.snap_state.proofs.Fits.{board_fits, reservations_fit}
+use Rattle.snap_state.proofs.Fits.{board_fits, reservations_fit, sections_fit}
 use Rattle.snap_state.proofs.Longest.{body_short}
 use Rattle.snap_state.proofs.Rules.{Rules, attached, few_harts, few_pages, rules_of}
+use Rattle.snap_state.proofs.Sectioned.{one_at_most}
 use Rattle.snap_state.proofs.Sizes.{device_within}
 use Rattle.snap_state.proofs.Texts.{configuration_fits}
 use Rattle.flat_snapshot.specs.Copies.{AreHarts, IsCopyOf, configuration_of, copy_of, reservations_from}
@@ -105,10 +106,10 @@ module _ (config : Config) (g : Guest) (copy : StateCopy) (own : Identity) (of :
   pages_are : copy.pages ≡ made.pages
   pages_are = ap (λ (c : StateCopy). c.pages) of.3
 
-  few : made.pages ≤ 262144
+  few : made.pages ≤ 2 ^ 20
   few = few_pages made rules
 
-  slots : length made.reservations ≤ 2 ^ 23
+  slots : length made.reservations ≤ 2 ^ 25
   slots =
       let many = savable.memory.many_slots in
       omega (arith, few, pages_are, many, few_reserved 0 g.memory.reserved)
@@ -161,7 +162,7 @@ module _ (config : Config) (g : Guest) (copy : StateCopy) (own : Identity) (of :
                 (
                   fits_list reservation made.reservations (omega (arith, held))
                       (reservations_fit made.pages config.machine.vcpu_count made.reservations (omega (arith, few)) harts rules.reservations),
-                  fits_list section [] (omega arith) (All-nil section.Fits),
+                  fits_list section made.sections (omega (arith, one_at_most g.ports)) (sections_fit g.ports (omega (arith, ports, drives))),
                 ),
               ),
             ),

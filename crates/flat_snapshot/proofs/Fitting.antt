@@ -35,7 +35,7 @@ use Rattle.flat_snapshot.proofs.Copied.{some_copy, some_harts}
 use Rattle.flat_snapshot.proofs.Fits.{contents_fit}
 use Rattle.flat_snapshot.proofs.Ready.{many_kept, valid_copy}
 
-fit_at : (port pages : ℕ) (d : FlatDevice) → pages ≤ 2 ^ 18 → port < 2 ^ 8 → IsSoundDevice port pages d
+fit_at : (port pages : ℕ) (d : FlatDevice) → pages ≤ 2 ^ 20 → port < 2 ^ 8 → IsSoundDevice port pages d
     → IsNarrowDevice port pages (device_reset d)
     → (it : Device) × DeviceLeads (device_reset d) (device_left it) × (is_kept it ≡ true) × device.Fits it
 fit_at port pages d few low sound narrow =
@@ -45,10 +45,10 @@ fit_at port pages d few low sound narrow =
       it.0,
       it.1,
       kept,
-      device_fits it.0 kept saved it.6 (subst (λ (n : ℕ). n ≤ 2 ^ 18) (sym it.5) few) (subst (λ (n : ℕ). n < 2 ^ 8) (sym it.4) low),
+      device_fits it.0 kept saved it.6 (subst (λ (n : ℕ). n ≤ 2 ^ 20) (sym it.5) few) (subst (λ (n : ℕ). n < 2 ^ 8) (sym it.4) low),
     )
 
-some_fits : (pages port : ℕ) (devices : List FlatDevice) → pages ≤ 2 ^ 18 → port + length devices ≤ 2 ^ 8
+some_fits : (pages port : ℕ) (devices : List FlatDevice) → pages ≤ 2 ^ 20 → port + length devices ≤ 2 ^ 8
     → ((i : ℕ) (d : FlatDevice) → slice_get devices i ≡ Some d → IsSoundDevice (port + i) pages d)
     → ((i : ℕ) (d : FlatDevice) → slice_get (map device_reset devices) i ≡ Some d → IsNarrowDevice (port + i) pages d)
     → (kept : List Device) × AreKept kept (map device_reset devices) × All device.Fits kept
@@ -69,7 +69,7 @@ some_fits pages port (d ∷ devices) few low was each =
 
 -- a guest that was there, and what it is behind a Reset
 module _ (config : Config) (own : Identity) (had : Guest) (was : IsSound had) (sound : IsSound (reset_guest had))
-    (ready : IsReady config (reset_guest had)) (small : config.machine.mem_size_mib ≤ 1024)
+    (ready : IsReady config (reset_guest had)) (small : config.machine.mem_size_mib ≤ 4096)
     (widths : HasWidths (256 * config.machine.mem_size_mib) config.machine.vcpu_count (reset_guest had)) where
   abbrev g : Guest
   g = reset_guest had

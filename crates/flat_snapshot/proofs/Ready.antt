@@ -45,6 +45,7 @@ use Rattle.snap_state.specs.Copy.{saved_board}
 use Rattle.snap_state.proofs.HasDevices.{has_kinds}
 use Rattle.snap_state.specs.Valid.{are_devices, asks, has_bits, has_devices, has_machine, is_aligned, is_before, is_board, is_counted, is_device, is_granule, is_hart, is_machine, is_placed, is_reserved, is_rising, is_valid, kind_of, rises_from}
 use Rattle.snap_state.proofs.Rules.{rules_hold}
+use Rattle.snap_state.proofs.Sectioned.{sections_taken}
 use Rattle.flat_snapshot.specs.Copies.{AreHarts, AreKept, IsCopyOf, copy_of, reservations_from}
 use Rattle.flat_snapshot.specs.Ready.{IsReady}
 
@@ -247,7 +248,7 @@ tracks false = refl
 
 -- ---- each copy
 
-module _ (config : Config) (g : Guest) (sound : IsSound g) (is : IsReady config g) (small : config.machine.mem_size_mib ≤ 1024)
+module _ (config : Config) (g : Guest) (sound : IsSound g) (is : IsReady config g) (small : config.machine.mem_size_mib ≤ 4096)
     (harts : List Hart) (are : AreHarts 0 g.starts g.steps harts) (kept : List Device) (tell : AreKept kept g.devices) where
   abbrev copy : StateCopy
   copy = copy_of config g harts kept
@@ -309,11 +310,11 @@ module _ (config : Config) (g : Guest) (sound : IsSound g) (is : IsReady config 
     devices = devices_are;
     reservations = reserved_are;
     rising = rising 0 g.memory.reserved;
-    sections = refl;
+    sections = sections_taken g.ports;
     timely = timely_valid g.board.now kept g.devices tell is.shaped.timely;
   })
 
-pub valid_copy : (config : Config) (g : Guest) (copy : StateCopy) → IsSound g → IsReady config g → config.machine.mem_size_mib ≤ 1024
+pub valid_copy : (config : Config) (g : Guest) (copy : StateCopy) → IsSound g → IsReady config g → config.machine.mem_size_mib ≤ 4096
     → IsCopyOf config g copy → is_valid copy ≡ true
 valid_copy config g copy sound is small (harts, are, kept, same) =
     subst (λ (c : StateCopy). is_valid c ≡ true) (sym same) (copy_valid config g sound is small harts are copy.devices kept)

@@ -19,6 +19,7 @@ use Rattle.snap_state.specs.declared.copy.Reservation.{Reservation}
 use Rattle.snap_state.specs.declared.copy.StateCopy.{StateCopy}
 use Rattle.snap_harts.specs.Copy.{saved_hart}
 use Rattle.snap_state.specs.Copy.{saved_board}
+use Rattle.snap_state.specs.Sections.{sections_of}
 
 -- the harts from this number on, each where its steps lead
 abbrev pub AreHarts : ℕ → List Regs → (ActorId → List Step) → List Hart → Type 0
@@ -74,7 +75,7 @@ copy_of config g harts kept = record {
   ports = g.ports;
   devices = kept;
   reservations = reservations_from 0 g.memory.reserved;
-  sections = [];
+  sections = sections_of g.ports;
 }
 
 -- A copy of the guest of a machine that is configured so. What is kept of a device is any of the data that may be kept and

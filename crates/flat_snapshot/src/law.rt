@@ -54,7 +54,7 @@ pub fn one_copy_of()
 /// file; its pages are all of the guest's memory. A guest that goes on from such a copy is one again.
 pub fn valid_copies()
     ensures valid { (config : Config) (g : Guest) (copy : StateCopy) → IsSound g → IsReady config g →
-        config.machine.mem_size_mib ≤ 1024 → IsCopyOf config g copy → is_valid_copy copy ≡ true }
+        config.machine.mem_size_mib ≤ 4096 → IsCopyOf config g copy → is_valid_copy copy ≡ true }
     ensures whole { (config : Config) (g : Guest) (copy : StateCopy) → IsReady config g → IsCopyOf config g copy →
         length g.memory.bytes ≡ page_size * copy.pages }
     ensures carried { (copy : StateCopy) (bytes : List ℕ) (tracking : Bool) → IsTrue (is_valid_copy copy) →

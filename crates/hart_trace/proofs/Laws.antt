@@ -91,7 +91,7 @@ idle_queue = record { descriptors = 0; available = 0; used = 0; size = 0; is_rea
 
 abbrev pub port_settled : PortOp → Reply
 port_settled port.Look = Reply.Port
-    (record { first = idle_queue; second = idle_queue; third = idle_queue; status = 0; was_reset = false })
+    (record { first = idle_queue; second = idle_queue; third = idle_queue; accepted = record { indirect = false; event_index = false }; status = 0; was_reset = false })
 port_settled (port.Interrupt causes) = Reply.Done
 port_settled port.Break = Reply.Word 0
 

@@ -1,7 +1,7 @@
 // What a block device does with a chain.
 mod acting;
 pub mod memory;
-mod setting;
+pub mod setting;
 mod walking;
 
 use crate::chains::acting::add_acts;

@@ -1,5 +1,6 @@
 // What a filler does, and what comes between its acts.
 use crate::chains::memory::{AVAILABLE, DESCRIPTORS, PAGES, PLACE, STATUS, USED, put, read};
+use crate::chains::setting::NOTHING;
 use crate::words::{Numbers, numbers_in};
 use filler_device::{FillerChange, FillerKind};
 use queue_device::QueueRounds;
@@ -117,6 +118,7 @@ fn looked(setting: &mut Setting) -> Reply {
             first: NONE,
             second: NONE,
             third: NONE,
+            accepted: NOTHING,
             status: 0,
             was_reset,
         });
@@ -125,6 +127,7 @@ fn looked(setting: &mut Setting) -> Reply {
         first: queue_shown(0, kicks % 2 == 1),
         second: queue_shown(BEHIND, kicks / 2 % 2 == 1),
         third: NONE,
+        accepted: NOTHING,
         status: 15,
         was_reset,
     })

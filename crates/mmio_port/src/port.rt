@@ -13,9 +13,9 @@ use crate::queues::{queue_shown, take_kicks};
 use crate::registers::{DRIVER_OK, NEEDS_RESET, as_new, has_bits, port_of};
 use crate::valid::is_state;
 use crate::window::{read_bytes, write_bytes};
-use port_table::{DeviceKind, PORT_SIZE, PortState};
+use port_table::{DeviceKind, Feature, PORT_SIZE, PortState};
 use std::marker::Model;
-use vm_types::{ActorId, GuestAddr, Op, Piece, Place, PortLook, PortOp, Reply};
+use vm_types::{Accepted, ActorId, GuestAddr, Op, Piece, Place, PortLook, PortOp, Reply};
 
 /// Bit 1 of InterruptStatus: the configuration changed (VIRTIO 1.2, 4.2.2).
 const CONFIGURATION_CHANGE: u64 = 2;
@@ -44,6 +44,29 @@ fn is_in_one(at: GuestAddr, len: usize) -> bool
     len as u64 <= PORT_SIZE - at % PORT_SIZE
 }
 
+// What every new device offers of its queues.
+fn queue_features() -> u64
+    ensures { result ≡ ports.queue_features }
+{
+    Feature::IndirectDescriptors.mask() | Feature::EventIndex.mask()
+}
+
+// Whether a feature is offered and the driver wrote its bit.
+fn is_accepted(state: &PortState, feature: Feature) -> bool
+    ensures { result ≡ acts.is_accepted state.now feature }
+{
+    has_bits(state.accepted & state.offered, feature.mask())
+}
+
+fn accepted_shown(state: &PortState) -> Accepted
+    ensures { result ≡ acts.accepted_shown state.now }
+{
+    Accepted {
+        indirect: is_accepted(state, Feature::IndirectDescriptors),
+        event_index: is_accepted(state, Feature::EventIndex),
+    }
+}
+
 fn port_shown(state: &PortState, was_reset: bool) -> PortLook
     ensures { result ≡ acts.port_shown was_reset state.now }
 {
@@ -51,6 +74,7 @@ fn port_shown(state: &PortState, was_reset: bool) -> PortLook
         first: queue_shown(&state.queues[0]),
         second: queue_shown(&state.queues[1]),
         third: queue_shown(&state.queues[2]),
+        accepted: accepted_shown(state),
         status: state.status,
         was_reset,
     }
@@ -123,7 +147,7 @@ impl Port {
         let mut bytes = [0; 8];
         put_config(kind, &mut bytes, config);
         Port {
-            state: port_of(kind, offered, bytes),
+            state: port_of(kind, offered | queue_features(), bytes),
         }
     }
 

@@ -41,11 +41,20 @@ fn has_config(kind: DeviceKind, config: &[u8; 8]) -> bool
     are_zeros(&config[kind.config_length()..])
 }
 
+// Indirect descriptors and the event index are offered together, or neither is.
+fn offers_alike(offered: u64) -> bool
+    ensures { result ≡ kept.offers_alike offered }
+{
+    has_bits(offered, Feature::IndirectDescriptors.mask())
+        == has_bits(offered, Feature::EventIndex.mask())
+}
+
 /// Whether a port may be in this state.
 pub fn is_state(state: &PortState) -> bool
     ensures { result ≡ kept.is_state state.now }
 {
     has_bits(state.offered, Feature::Version1.mask())
+        && offers_alike(state.offered)
         && has_queues(state.kind, &state.queues)
         && has_config(state.kind, &state.config)
         && (!state.is_reset_asked || state.status != 0)

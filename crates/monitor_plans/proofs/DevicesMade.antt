@@ -41,7 +41,7 @@ taken_balloon : (config : Config) (b : Balloon) → IsTaken config → config.ba
 taken_balloon config b taken there =
     subst (λ (o : Option Balloon). holds (is_balloon config.machine.mem_size_mib) o ≡ true) there taken.balloon
 
-pub balloon_few : (config : Config) (b : Balloon) → IsTaken config → config.balloon ≡ Some b → b.amount_mib ≤ 1024
+pub balloon_few : (config : Config) (b : Balloon) → IsTaken config → config.balloon ≡ Some b → b.amount_mib ≤ 4096
 balloon_few config b taken there =
     let mib : ℕ = config.machine.mem_size_mib in
     let parts = and_parts (nat_le b.amount_mib mib) (nat_lt b.stats_polling_interval_s (2 ^ 16)) (taken_balloon config b taken there) in
@@ -198,5 +198,5 @@ pub interval_is : (patch : StatisticsPatch) (balloon : Option Balloon) (b : Ball
     → ◌≡◌ {A = Option Balloon} (Some (record b { stats_polling_interval_s = patch.stats_polling_interval_s })) (with_interval patch balloon)
 interval_is patch balloon b there = ap (with_interval patch) (sym there)
 
-pub amount_within : (config : Config) (amount : ℕ) → IsTaken config → amount ≤ config.machine.mem_size_mib → amount ≤ 1024
+pub amount_within : (config : Config) (amount : ℕ) → IsTaken config → amount ≤ config.machine.mem_size_mib → amount ≤ 4096
 amount_within config amount taken fits = let most = (bounded config taken).mib in omega (arith, most, fits)

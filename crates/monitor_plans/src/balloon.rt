@@ -17,9 +17,9 @@ use le_fields::put32;
 /// A MiB has so many pages of 4,096 bytes.
 const PAGES: u64 = 256;
 
-// How many pages it is to take. A machine has at most 1,024 MiB.
+// How many pages it is to take. A machine has at most 4,096 MiB.
 fn target_of(balloon: &Balloon) -> u32
-    requires { balloon.now.amount_mib ≤ 1024 }
+    requires { balloon.now.amount_mib ≤ 4096 }
     ensures { result ≡ balloons.target_of balloon.now }
 {
     (PAGES * balloon.amount_mib) as u32
@@ -27,7 +27,7 @@ fn target_of(balloon: &Balloon) -> u32
 
 /// What a balloon starts with.
 pub fn new_balloon(balloon: &Balloon) -> NewBalloon
-    requires few { balloon.now.amount_mib ≤ 1024 }
+    requires few { balloon.now.amount_mib ≤ 4096 }
     requires near { balloon.now.stats_polling_interval_s < 2 ^ 16 }
     ensures { result ≡ balloons.new_balloon balloon.now }
 {
@@ -48,7 +48,7 @@ pub fn interval_told(balloon: &Balloon) -> DeviceChange
 
 /// What its port shows once it is to take so much, by what it showed.
 pub fn target_shown(balloon: &Balloon, shown: [u8; 8]) -> [u8; 8]
-    requires { balloon.now.amount_mib ≤ 1024 }
+    requires { balloon.now.amount_mib ≤ 4096 }
     ensures { (p : PortState) → p.config ≡ shown → result ≡ port.target_shown (balloons.target_of balloon.now) p }
 {
     let mut bytes = shown;
@@ -71,7 +71,7 @@ pub fn balloon_number(config: &TakenConfig) -> Option<u8>
 pub fn amount_patched(config: &TakenConfig, patch: &BalloonPatch) -> Option<Balloon>
     requires { IsFitting config.now (change.PatchBalloon patch.now) }
     ensures is { result ≡ with_amount patch.now config.now.balloon }
-    ensures few { IfSome result (λ b. b.amount_mib ≤ 1024) }
+    ensures few { IfSome result (λ b. b.amount_mib ≤ 4096) }
     ensures near { IfSome result (λ b. b.stats_polling_interval_s < 2 ^ 16) }
 {
     let Some(balloon) = &config.get().balloon else {

@@ -8,7 +8,7 @@ use std::alloc::{AllocError, Global};
 use std::marker::Model;
 use vm_config::{Drives, Interfaces};
 
-/// What is configured, each part of which is as the API takes it. So it has from 1 to 32 harts, from 4 to 1,024 MiB of memory
+/// What is configured, each part of which is as the API takes it. So it has from 1 to 32 harts, from 4 to 4,096 MiB of memory
 /// and at most 16 devices, and a start of it comes to no bound of the machine.
 #[derive(Drop)]
 pub struct TakenConfig {

@@ -16,7 +16,8 @@ use Rattle.vq_split.specs.Chain.{read_bytes}
 use Rattle.vq_split.specs.Inside.{AreInside}
 use Rattle.dev_core.specs.Inside.{Any}
 use Rattle.dev_core.specs.Pieces.{past, place, put_all, readable, room, share, writable}
-use Rattle.dev_core.proofs.Fuel.{bytes_fit, put_done}
+use Rattle.vq_split.proofs.Steps.{bytes_fit}
+use Rattle.dev_core.proofs.Fuel.{put_done}
 use Rattle.dev_core.proofs.Inside.{filter_inside, past_inside}
 use Rattle.queue_device.specs.declared.lanes.Which.{Which}
 use Rattle.queue_device.specs.declared.lanes.Which.TheVariants.{First, Second, Third}

@@ -75,6 +75,7 @@ looks is_kicked = did (Port 3 Look) (Reply.Port (record {
   first = queue_at 0x80002000 false;
   second = queue_at 0x80003000 is_kicked;
   third = no_queue;
+  accepted = record { indirect = false; event_index = false };
   status = 15;
   was_reset = false;
 }))

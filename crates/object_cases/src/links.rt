@@ -41,11 +41,12 @@ fn put_frame(peer: &mut UnixStream, count: u32) -> io::Result<()> {
 }
 
 fn send(links: &mut LinkSockets<'_, HostRuntime>, count: usize) -> Result<(), Failed> {
-    let mut left = count;
-    while left > 0 {
-        let some = left.min(Piece::MOST);
-        links.send_part(0, Piece::from_slice(&[9; 64][..some]))?;
-        left -= some;
+    for _ in 0..count / Piece::MOST {
+        links.send_part(0, Piece::from_slice(&[9; 64]))?;
+    }
+    let rest = count % Piece::MOST;
+    if rest > 0 {
+        links.send_part(0, Piece::from_slice(&[9; 64][..rest]))?;
     }
     links.send_end(0)
 }
@@ -133,12 +134,12 @@ fn show_full(
     shown.show("link: back", &links.take(0));
     let mut peer = door.accept()?.0;
     let start = Instant::now(rt)?;
-    let mut sent = 0;
+    let mut sent: u32 = 0;
     for _ in 0..MANY {
         if send(links, 1_514).is_err() {
             break;
         }
-        sent += 1;
+        sent = sent.saturating_add(1);
     }
     shown.show("link: some are sent", &(sent > 0 && sent < MANY));
     shown.show("link: a frame more", &send(links, 1_514));
@@ -147,7 +148,7 @@ fn show_full(
     peer.set_nonblocking(true)?;
     shown.show(
         "link: all that were sent come",
-        &(read_all(&mut peer)? == sent * 1_518),
+        &(read_all(&mut peer)? == sent.saturating_mul(1_518)),
     );
     shown.show("link: and then more do", &send(links, 1_514));
     drop(peer);
@@ -157,11 +158,11 @@ fn show_full(
 }
 
 fn read_all(peer: &mut UnixStream) -> io::Result<u32> {
-    let mut all = 0;
+    let mut all: u32 = 0;
     for _ in 0..MANY {
         match peer.read(&mut [0; 2_000]) {
             Ok(0) => break,
-            Ok(count) => all += count as u32,
+            Ok(count) => all = all.saturating_add(count as u32),
             Err(e) if e.kind() == ErrorKind::WouldBlock => break,
             Err(e) => return Err(e),
         }

@@ -141,9 +141,9 @@ fn show_closed(
     shown.show("vsock: close", &host.close(4));
     shown.show("vsock: send behind the close", &host.send(4, piece()));
     caller.set_nonblocking(true)?;
-    let mut read = 0;
+    let mut read: usize = 0;
     for _ in 0..1_000 {
-        read += read_some(&mut caller)?;
+        read = read.saturating_add(read_some(&mut caller)?);
         show_no_event(host, shown);
     }
     shown.show("vsock: all of it comes", &read);
@@ -199,10 +199,10 @@ fn show_crowd(
     for _ in 0..CROWD {
         crowd.push(UnixStream::connect(rt, NAME)?)?;
     }
-    let mut taken = 0;
+    let mut taken: u32 = 0;
     for _ in 0..CROWD {
         if let Ok(HostEvent::New { .. }) = host.next() {
-            taken += 1;
+            taken = taken.saturating_add(1);
         }
     }
     shown.show("vsock: of a crowd are taken", &taken);
@@ -210,10 +210,10 @@ fn show_crowd(
     show_event(host, shown);
     show_event(host, shown);
     drop(crowd);
-    let mut ended = 0;
+    let mut ended: u32 = 0;
     for _ in 0..1_000 {
         if let Ok(HostEvent::Ended { .. }) = host.next() {
-            ended += 1;
+            ended = ended.saturating_add(1);
         }
     }
     shown.show("vsock: in the end are gone", &ended);

@@ -1,9 +1,9 @@
 -- Each act on a port leaves a state that ports may be in.
-use Rattle.std.proofs.Common.{◌≡◌, ℕ, zero, suc, ◌+◌, ◌-◌, ◌==◌, ◌<◌, ◌≤◌, nat_le, nat_lt, Bool, true, false, ◌&&◌, ◌||◌, not, if◌then◌else◌, List, [], ◌∷◌, ◌++◌, length, take, drop, replicate, map, slice_set, Option, Some, None, bit_and, bit_or, refl, ap, ◌∙◌, arith, length-append, length-drop, length-take}
+use Rattle.std.proofs.Common.{◌≡◌, ℕ, zero, suc, ◌+◌, ◌-◌, ◌==◌, ◌<◌, ◌≤◌, nat_le, nat_lt, Bool, true, false, ◌&&◌, ◌||◌, not, if◌then◌else◌, List, [], ◌∷◌, ◌++◌, length, take, drop, replicate, map, slice_set, Option, Some, None, bit_and, bit_or, refl, sym, ap, ◌∙◌, arith, length-append, length-drop, length-take}
 use Rattle.std.specs.List.{list_all}
 use Rattle.std.proofs.lemmas.List.{drop-set-lt}
 use Rattle.std.proofs.lemmas.Slice.{drop-append-drop}
-use Rattle.std.proofs.lemmas.Nat.{and_or_self, le_or_r}
+use Rattle.std.proofs.lemmas.Nat.{and_assoc, and_or_apart, and_or_self, le_or_r}
 use Rattle.std.proofs.lemmas.Grind.{common_steps}
 use Rattle.std.proofs.lemmas.Bool.{and_from, and_parts}
 use Rattle.vm_types.specs.declared.ids.ActorId.{ActorId}
@@ -14,22 +14,23 @@ use Rattle.vm_types.specs.declared.reply.Reply.{Reply}
 use Rattle.le_fields.specs.Fields.{little_endian}
 use Rattle.port_table.specs.declared.kind.DeviceKind.{DeviceKind}
 use Rattle.port_table.specs.declared.kind.DeviceKind.TheVariants.{Net, Block, Balloon, Vsock}
-use Rattle.port_table.specs.declared.kind.Feature.TheVariants.{Version1}
+use Rattle.port_table.specs.declared.kind.Feature.TheVariants.{EventIndex, IndirectDescriptors, Version1}
 use Rattle.port_table.specs.declared.register.Register.{Register}
 use Rattle.port_table.specs.declared.register.Register.TheVariants as register
 use Rattle.port_table.specs.declared.state.PortQueue.{PortQueue}
 use Rattle.port_table.specs.declared.state.PortState.{PortState}
 use Rattle.port_table.specs.Access.{after_bytes, after_write, bytes_read, config_after, config_start, is_config_width, is_word}
 use Rattle.port_table.specs.Acts.{configuration_change, configured, interrupted, port_act, port_shown, touch, without_kick, without_kicks}
-use Rattle.port_table.specs.Kept.{has_config, has_queues, is_new, is_state, is_zero}
+use Rattle.port_table.specs.Kept.{has_config, has_queues, is_new, is_state, is_zero, offers_alike}
 use Rattle.port_table.specs.Kinds.{config_length, feature_mask, queue_count}
-use Rattle.port_table.specs.Ports.{as_new, is_queue, new_port, new_queue, put_over, port_of, queue, reset_config, with_config, with_queue}
+use Rattle.port_table.specs.Ports.{as_new, is_queue, new_port, new_queue, put_over, port_of, queue, queue_features, reset_config, with_config, with_queue}
 use Rattle.port_table.specs.Registers.{driver_ok, has_bits, needs_reset, notified, register_after, register_at, status_taken, status_written, to_queue, with_high_half, with_low_half}
 use Rattle.port_table.specs.Window.{is_in_one, port_offset}
 
 -- a state, by its facts
 record Is (p : PortState) : Type 0 where
   versioned : has_bits p.offered (feature_mask Version1) ≡ true
+  alike : offers_alike p.offered ≡ true
   queues : has_queues p.kind p.queues ≡ true
   config : has_config p.kind p.config ≡ true
   asked : p.is_reset_asked ≡ true → (p.status == 0) ≡ false
@@ -47,13 +48,16 @@ test_of_asked false none is = refl
 is_of : (p : PortState) → is_state p ≡ true → Is p
 is_of p is =
     let versioned : Bool = has_bits p.offered (feature_mask Version1) in
+    let alike : Bool = offers_alike p.offered in
     let queues : Bool = has_queues p.kind p.queues in
     let config : Bool = has_config p.kind p.config in
-    let h = and_parts (versioned && queues && config) (not p.is_reset_asked || not (p.status == 0)) is in
-    let g = and_parts (versioned && queues) config h.0 in
-    let f = and_parts versioned queues g.0 in
+    let h = and_parts (versioned && alike && queues && config) (not p.is_reset_asked || not (p.status == 0)) is in
+    let g = and_parts (versioned && alike && queues) config h.0 in
+    let f = and_parts (versioned && alike) queues g.0 in
+    let e = and_parts versioned alike f.0 in
     record {
-      versioned = f.0;
+      versioned = e.0;
+      alike = e.1;
       queues = f.1;
       config = g.1;
       asked = asked_of p.is_reset_asked (p.status == 0) h.1;
@@ -61,7 +65,7 @@ is_of p is =
 
 test_of : (p : PortState) → Is p → is_state p ≡ true
 test_of p is =
-    and_from _ _ (and_from _ _ (and_from _ _ is.versioned is.queues) is.config)
+    and_from _ _ (and_from _ _ (and_from _ _ (and_from _ _ is.versioned is.alike) is.queues) is.config)
     (test_of_asked p.is_reset_asked (p.status == 0) is.asked)
 
 -- ---- as new
@@ -77,16 +81,41 @@ nothing_past bytes short =
     let none : drop 8 bytes ≡ [] = grind (arith, common_steps) in
     rw none refl
 
-is_port : (kind : DeviceKind) (offered : ℕ) (config : List ℕ) → has_config kind config ≡ true
+-- both bits are among these, or as among others
+with_both : (n : ℕ) → offers_alike (bit_or n queue_features) ≡ true
+with_both n =
+    let first : bit_and queue_features (feature_mask IndirectDescriptors) ≡ feature_mask IndirectDescriptors = refl in
+    let second : bit_and queue_features (feature_mask EventIndex) ≡ feature_mask EventIndex = refl in
+    let one = has_of (bit_or n queue_features) (feature_mask IndirectDescriptors) (within n (feature_mask IndirectDescriptors) first) in
+    let two = has_of (bit_or n queue_features) (feature_mask EventIndex) (within n (feature_mask EventIndex) second) in
+    rw one two
+  where
+    within : (n m : ℕ) → bit_and queue_features m ≡ m → bit_and (bit_or n queue_features) m ≡ m
+    within n m is =
+        ap (λ x. bit_and (bit_or n queue_features) x) (sym is) ∙ sym (and_assoc m (bit_or n queue_features) queue_features)
+        ∙ ap (λ x. bit_and x m) (and_or_self queue_features n) ∙ is
+
+has_of : (n m : ℕ) → bit_and n m ≡ m → has_bits n m ≡ true
+has_of n m is = grind arith
+
+-- VIRTIO_F_VERSION_1 is none of the two
+versioned_alike : (n : ℕ) → offers_alike n ≡ true → offers_alike (bit_or n (feature_mask Version1)) ≡ true
+versioned_alike n is =
+    let one : bit_and (bit_or n (feature_mask Version1)) (feature_mask IndirectDescriptors) ≡ bit_and n (feature_mask IndirectDescriptors) =
+    and_or_apart (feature_mask IndirectDescriptors) n (feature_mask Version1) refl in
+    let two : bit_and (bit_or n (feature_mask Version1)) (feature_mask EventIndex) ≡ bit_and n (feature_mask EventIndex) =
+    and_or_apart (feature_mask EventIndex) n (feature_mask Version1) refl in
+    rw one rw two is
+
+is_port : (kind : DeviceKind) (offered : ℕ) (config : List ℕ) → offers_alike offered ≡ true → has_config kind config ≡ true
     → Is (port_of kind offered config)
-is_port kind offered config is = record {
-  versioned = bits (bit_or offered (feature_mask Version1)) (and_or_self (feature_mask Version1) offered);
+is_port kind offered config alike is = record {
+  versioned = has_of (bit_or offered (feature_mask Version1)) (feature_mask Version1) (and_or_self (feature_mask Version1) offered);
+  alike = versioned_alike offered alike;
   queues = no_queue_used kind;
   config = is;
   asked = λ on. cc;
-} where
-  bits : (n : ℕ) → bit_and n (feature_mask Version1) ≡ feature_mask Version1 → has_bits n (feature_mask Version1) ≡ true
-  bits n is = grind arith
+}
 
 reset_has : (kind : DeviceKind) (config : List ℕ) → has_config kind config ≡ true
     → has_config kind (reset_config kind config) ≡ true
@@ -100,7 +129,7 @@ reset_has Block config is = is
 reset_has Vsock config is = is
 
 as_new_is : (p : PortState) → Is p → Is (as_new p)
-as_new_is p is = is_port p.kind p.offered (reset_config p.kind p.config) (reset_has p.kind p.config is.config)
+as_new_is p is = is_port p.kind p.offered (reset_config p.kind p.config) is.alike (reset_has p.kind p.config is.config)
 
 -- ---- the configuration
 
@@ -197,11 +226,12 @@ either P false x y first second = second refl
 
 interrupted_is : (p : PortState) (causes : ℕ) → Is p → Is (interrupted p causes)
 interrupted_is p causes is =
-    record { versioned = is.versioned; queues = is.queues; config = is.config; asked = is.asked }
+    record { versioned = is.versioned; alike = is.alike; queues = is.queues; config = is.config; asked = is.asked }
 
 marked_is : (p : PortState) → Is p → Is (record p { status = bit_or p.status needs_reset })
 marked_is p is = record {
   versioned = is.versioned;
+  alike = is.alike;
   queues = is.queues;
   config = is.config;
   asked = λ on. some (bit_or p.status needs_reset) (le_or_r p.status needs_reset);
@@ -215,6 +245,7 @@ act_is p act.Look is =
     (Reply.Port (port_shown false p), without_kicks p) (λ on. as_new_is p is)
     (λ off. record {
       versioned = is.versioned;
+      alike = is.alike;
       queues = unkicked_from (queue_count p.kind) p.queues is.queues;
       config = is.config;
       asked = is.asked;
@@ -231,6 +262,7 @@ act_is p act.Break is =
 with_is : (p : PortState) (k : ℕ) (q : PortQueue) → is_queue p k ≡ true → Is p → Is (with_queue p k q)
 with_is p k q below is = record {
   versioned = is.versioned;
+  alike = is.alike;
   queues = set_has p.kind p.queues k q below is.queues;
   config = is.config;
   asked = is.asked;
@@ -256,6 +288,7 @@ status_is p value is =
     (λ off. either Is (not (value == 0)) taken (if p.status == 0 then as_new p else waiting)
     (λ some. record {
       versioned = is.versioned;
+      alike = is.alike;
       queues = is.queues;
       config = is.config;
       asked = λ on. absurd (apart p.is_reset_asked on off);
@@ -263,6 +296,7 @@ status_is p value is =
     (λ none. either Is (p.status == 0) (as_new p) waiting (λ new. as_new_is p is)
     (λ old. record {
       versioned = is.versioned;
+      alike = is.alike;
       queues = is.queues;
       config = is.config;
       asked = λ on. old;
@@ -273,18 +307,18 @@ status_is p value is =
 
 register_is : (p : PortState) (r : Register) (value : ℕ) → Is p → Is (register_after p r value)
 register_is p register.DeviceFeaturesSel value is =
-    record { versioned = is.versioned; queues = is.queues; config = is.config; asked = is.asked }
+    record { versioned = is.versioned; alike = is.alike; queues = is.queues; config = is.config; asked = is.asked }
 register_is p register.DriverFeatures value is =
-    record { versioned = is.versioned; queues = is.queues; config = is.config; asked = is.asked }
+    record { versioned = is.versioned; alike = is.alike; queues = is.queues; config = is.config; asked = is.asked }
 register_is p register.DriverFeaturesSel value is =
-    record { versioned = is.versioned; queues = is.queues; config = is.config; asked = is.asked }
+    record { versioned = is.versioned; alike = is.alike; queues = is.queues; config = is.config; asked = is.asked }
 register_is p register.QueueSel value is =
-    record { versioned = is.versioned; queues = is.queues; config = is.config; asked = is.asked }
+    record { versioned = is.versioned; alike = is.alike; queues = is.queues; config = is.config; asked = is.asked }
 register_is p register.QueueNum value is = to_is p (λ q. record q { size = value }) is
 register_is p register.QueueReady value is = to_is p (λ q. record q { ready = value }) is
 register_is p register.QueueNotify value is = notified_is p value is
 register_is p register.InterruptAck value is =
-    record { versioned = is.versioned; queues = is.queues; config = is.config; asked = is.asked }
+    record { versioned = is.versioned; alike = is.alike; queues = is.queues; config = is.config; asked = is.asked }
 register_is p register.Status value is = status_is p value is
 register_is p register.QueueDescLow value is = to_is p (λ q. record q { descriptors = with_low_half q.descriptors value }) is
 register_is p register.QueueDescHigh value is = to_is p (λ q. record q { descriptors = with_high_half q.descriptors value }) is
@@ -309,6 +343,7 @@ bytes_is p offset piece long is =
     (λ behind. either Is (is_config_width (length piece)) config p
     (λ on. record {
       versioned = is.versioned;
+      alike = is.alike;
       queues = is.queues;
       config = written_has p.kind p.config (offset - config_start) piece long is.config;
       asked = is.asked;
@@ -329,8 +364,8 @@ touch_is p actor op long is = is
 
 pub new_kept : (kind : DeviceKind) (offered : ℕ) (bytes : List ℕ) → is_state (new_port kind offered bytes) ≡ true
 new_kept kind offered bytes =
-    test_of (new_port kind offered bytes) (is_port kind offered (with_config kind (replicate 8 0) bytes)
-    (with_has kind (replicate 8 0) bytes refl (zeros_have kind)))
+    test_of (new_port kind offered bytes) (is_port kind (bit_or offered queue_features) (with_config kind (replicate 8 0) bytes)
+    (with_both offered) (with_has kind (replicate 8 0) bytes refl (zeros_have kind)))
 
 pub touch_kept : (p : PortState) (actor : ActorId) (op : Op) → length p.config ≡ 8 → is_state p ≡ true
     → is_state (touch p actor op).1 ≡ true
@@ -343,6 +378,7 @@ configured_kept p bytes long test =
     test_of (configured p bytes)
     (record {
       versioned = is.versioned;
+      alike = is.alike;
       queues = is.queues;
       config = with_has p.kind p.config bytes long is.config;
       asked = is.asked;

@@ -15,7 +15,7 @@ use Rattle.le_fields.specs.Fields.{IsByte, bytes_of, little_endian}
 use Rattle.le_fields.proofs.Values.{all_bytes, value_below}
 use Rattle.port_table.specs.declared.kind.DeviceKind.{DeviceKind}
 use Rattle.port_table.specs.declared.kind.DeviceKind.TheVariants.{Net, Block, Balloon, Vsock}
-use Rattle.port_table.specs.declared.kind.Feature.TheVariants.{Version1}
+use Rattle.port_table.specs.declared.kind.Feature.TheVariants.{EventIndex, IndirectDescriptors, Version1}
 use Rattle.port_table.specs.declared.register.Register.{Register}
 use Rattle.port_table.specs.declared.register.Register.TheVariants as register
 use Rattle.port_table.specs.declared.state.PortQueue.{PortQueue}
@@ -23,7 +23,7 @@ use Rattle.port_table.specs.declared.state.PortState.{PortState}
 use Rattle.port_table.specs.Access.{after_bytes, after_write, bytes_read, config_after, config_bytes, config_start, is_config_width, is_word, value_of}
 use Rattle.port_table.specs.Acts.{configuration_change, configured, interrupted, port_act, port_shown, touch, without_kick, without_kicks}
 use Rattle.port_table.specs.Kinds.{config_length, feature_mask}
-use Rattle.port_table.specs.Ports.{as_new, is_queue, new_port, new_queue, put_over, port_of, queue, reset_config, with_config, with_queue}
+use Rattle.port_table.specs.Ports.{as_new, is_queue, new_port, new_queue, put_over, port_of, queue, queue_features, reset_config, with_config, with_queue}
 use Rattle.port_table.specs.Registers.{are_good, driver_ok, features_ok, features_written, has_bits, needs_reset, register_after, register_at, status_taken, status_written, to_queue, with_high_half, with_low_half}
 use Rattle.port_table.specs.Sizes.{IsDouble, IsKept, IsSized, IsSizedQueue, IsSmallOp, IsSmallReply, IsWord}
 use Rattle.port_table.specs.Window.{is_in_one, port_offset}
@@ -501,6 +501,9 @@ configured_stays kind p bytes small is =
       sized = left.sized;
     }
 
+features_sized : IsDouble queue_features
+features_sized = or_lt 64 (feature_mask IndirectDescriptors) (feature_mask EventIndex) (omega arith) (omega arith)
+
 pub new_stays : (kind : DeviceKind) (offered : ℕ) (bytes : List ℕ) → IsDouble offered → All IsByte bytes
     → IsKept kind (new_port kind offered bytes)
 new_stays kind offered bytes small all =
@@ -508,7 +511,8 @@ new_stays kind offered bytes small all =
       kind_is = refl;
       state = new_kept kind offered bytes;
       sized =
-          port_sized kind offered (with_config kind (replicate 8 0) bytes) small (put_over_long (replicate 8 0) 0 front)
+          port_sized kind (bit_or offered queue_features) (with_config kind (replicate 8 0) bytes)
+          (or_lt 64 offered queue_features small features_sized) (put_over_long (replicate 8 0) 0 front)
           (put_over_bytes (replicate 8 0) 0 front (zeros 8) (All-take IsByte (config_length kind) bytes all));
     }
 

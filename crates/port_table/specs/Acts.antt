@@ -1,15 +1,19 @@
 -- What each act on a port is answered, and what it leaves.
-use Rattle.std.specs.Prelude.{ℕ, ◌+◌, ◌-◌, ◌%◌, ◌^◌, ◌==◌, min, nat_le, Bool, true, false, ◌&&◌, if◌then◌else◌, List, length, bit_or, map}
+use Rattle.std.specs.Prelude.{ℕ, ◌+◌, ◌-◌, ◌%◌, ◌^◌, ◌==◌, min, nat_le, Bool, true, false, ◌&&◌, if◌then◌else◌, List, length, bit_and, bit_or, map}
 use Rattle.vm_types.specs.declared.ids.ActorId.{ActorId}
 use Rattle.vm_types.specs.declared.op.Op.{Op}
 use Rattle.vm_types.specs.declared.op.PortOp.{PortOp}
 use Rattle.vm_types.specs.declared.op.PortOp.TheVariants as act
+use Rattle.vm_types.specs.declared.port_look.Accepted.{Accepted}
 use Rattle.vm_types.specs.declared.port_look.PortLook.{PortLook}
 use Rattle.vm_types.specs.declared.port_look.QueueShown.{QueueShown}
 use Rattle.vm_types.specs.declared.reply.Reply.{Reply}
+use Rattle.port_table.specs.declared.kind.Feature.{Feature}
+use Rattle.port_table.specs.declared.kind.Feature.TheVariants.{EventIndex, IndirectDescriptors}
 use Rattle.port_table.specs.declared.state.PortQueue.{PortQueue}
 use Rattle.port_table.specs.declared.state.PortState.{PortState}
 use Rattle.port_table.specs.Access.{after_bytes, bytes_read}
+use Rattle.port_table.specs.Kinds.{feature_mask}
 use Rattle.port_table.specs.Ports.{as_new, queue, with_config}
 use Rattle.port_table.specs.Registers.{driver_ok, has_bits, needs_reset}
 use Rattle.port_table.specs.Window.{is_in_one, port_offset}
@@ -26,11 +30,19 @@ queue_shown q = record {
   is_kicked = q.is_kicked;
 }
 
+-- the driver's bits count where they are offered, whether or not FEATURES_OK was set
+abbrev pub is_accepted : PortState → Feature → Bool
+is_accepted p f = has_bits (bit_and p.accepted p.offered) (feature_mask f)
+
+abbrev pub accepted_shown : PortState → Accepted
+accepted_shown p = record { indirect = is_accepted p IndirectDescriptors; event_index = is_accepted p EventIndex }
+
 abbrev pub port_shown : Bool → PortState → PortLook
 port_shown was_reset p = record {
   first = queue_shown (queue p 0);
   second = queue_shown (queue p 1);
   third = queue_shown (queue p 2);
+  accepted = accepted_shown p;
   status = p.status;
   was_reset = was_reset;
 }

@@ -28,9 +28,11 @@ config_length Block = 8
 config_length Balloon = 8
 config_length Vsock = 8
 
--- the bit of a feature (5.1.3, 5.2.3, 5.5.3, and 6 for VIRTIO_F_VERSION_1)
+-- the bit of a feature (5.1.3, 5.2.3, 5.5.3, and 6 for those of every device)
 abbrev pub feature_bit : Feature → ℕ
 feature_bit feature.Version1 = 32
+feature_bit feature.IndirectDescriptors = 28
+feature_bit feature.EventIndex = 29
 feature_bit feature.NetMac = 5
 feature_bit feature.BlockReadOnly = 5
 feature_bit feature.BlockFlush = 9

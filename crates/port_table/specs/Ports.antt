@@ -2,7 +2,7 @@
 use Rattle.std.specs.Prelude.{ℕ, ◌+◌, ◌-◌, nat_lt, Bool, false, List, ◌++◌, length, take, drop, replicate, bit_or, slice_index_or, slice_set}
 use Rattle.port_table.specs.declared.kind.DeviceKind.{DeviceKind}
 use Rattle.port_table.specs.declared.kind.DeviceKind.TheVariants.{Balloon}
-use Rattle.port_table.specs.declared.kind.Feature.TheVariants.{Version1}
+use Rattle.port_table.specs.declared.kind.Feature.TheVariants.{EventIndex, IndirectDescriptors, Version1}
 use Rattle.port_table.specs.declared.state.PortQueue.{PortQueue}
 use Rattle.port_table.specs.declared.state.PortState.{PortState}
 use Rattle.port_table.specs.Kinds.{config_length, feature_mask, queue_count}
@@ -37,8 +37,12 @@ put_over bytes at piece = take at bytes ++ take (length bytes - at) piece ++ dro
 abbrev pub with_config : DeviceKind → List ℕ → List ℕ → List ℕ
 with_config kind config bytes = put_over config 0 (take (config_length kind) bytes)
 
+-- what every new device offers of its queues. One that is loaded offers what its file says
+abbrev pub queue_features : ℕ
+queue_features = bit_or (feature_mask IndirectDescriptors) (feature_mask EventIndex)
+
 abbrev pub new_port : DeviceKind → ℕ → List ℕ → PortState
-new_port kind offered bytes = port_of kind offered (with_config kind (replicate 8 0) bytes)
+new_port kind offered bytes = port_of kind (bit_or offered queue_features) (with_config kind (replicate 8 0) bytes)
 
 -- A reset leaves what the device says of itself: its features and its configuration. What the driver wrote of that, the
 -- balloon's `actual`, bytes 4 to 7 (VIRTIO 1.2, 5.5.4), is 0 again.

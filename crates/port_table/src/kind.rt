@@ -16,6 +16,10 @@ pub enum DeviceKind {
 pub enum Feature {
     /// VIRTIO_F_VERSION_1, which each device offers.
     Version1,
+    /// VIRTIO_F_INDIRECT_DESC: a descriptor may name a table of descriptors.
+    IndirectDescriptors,
+    /// VIRTIO_F_EVENT_IDX: driver and device say at which index they want to be told.
+    EventIndex,
     /// VIRTIO_NET_F_MAC: the device has a given MAC address.
     NetMac,
     /// VIRTIO_BLK_F_RO: the device is read-only.
@@ -35,6 +39,8 @@ impl Feature {
     {
         match self {
             Feature::Version1 => 0x1_0000_0000,
+            Feature::IndirectDescriptors => 0x1000_0000,
+            Feature::EventIndex => 0x2000_0000,
             Feature::NetMac => 0x20,
             Feature::BlockReadOnly => 0x20,
             Feature::BlockFlush => 0x200,

@@ -10,6 +10,7 @@ use Rattle.vq_split.specs.Walking.{Told, Walking, walk_of}
 use Rattle.vq_split.proofs.Kept.{is_eq}
 use Rattle.dev_core.specs.declared.breaking.BreakStage.{BreakStage}
 use Rattle.dev_core.specs.declared.returning.ReturnStage.{ReturnStage}
+use Rattle.dev_core.specs.Returning.{may_return}
 use Rattle.queue_device.specs.declared.lanes.Due.{Due}
 use Rattle.queue_device.specs.declared.lanes.Due.TheVariants as due
 use Rattle.queue_device.specs.declared.lanes.Lane.{Lane}
@@ -280,8 +281,8 @@ module _ {E G : Type 0} (s : Service E) (times : Bool) (is_work : Work → ℕ �
       → (is_holding s times c r ≡ true) × (is_work work.Rest r.pages g ≡ true)
   return_parts c len stage r g test =
       let p = state_parts (phase.Return c len stage) r g test in
-      let at = and_parts (is_at_lane r.due) (is_in_hand times c r)
-      (and_parts _ (is_told stage len c.head) p.1).0 in
+      let told = (and_parts _ (may_return stage c.queue) p.1).0 in
+      let at = and_parts (is_at_lane r.due) (is_in_hand times c r) (and_parts _ (is_told stage len c.head) told).0 in
       (and_from _ _ (and_from _ _ p.0 at.0) at.1, p.2)
 
   pub break_parts : (k : Which) (stage : BreakStage) (r : Rounds) (g : G)

@@ -7,6 +7,7 @@ use Rattle.vq_split.specs.Walking.{Walking}
 use Rattle.vq_split.proofs.Kept.{is_eq}
 use Rattle.dev_core.specs.declared.breaking.BreakStage.{BreakStage}
 use Rattle.dev_core.specs.declared.returning.ReturnStage.{ReturnStage}
+use Rattle.dev_core.specs.Returning.{may_return}
 use Rattle.queue_device.specs.declared.lanes.Due.{Due}
 use Rattle.queue_device.specs.declared.lanes.Due.TheVariants as due
 use Rattle.queue_device.specs.declared.lanes.Lane.{Lane}
@@ -227,8 +228,8 @@ module _ {E G : Type 0} (s : Service E) (times : Bool) (is_work : Work → ℕ �
         let w = and_parts (are_kept s times r) (is_at_lane r.due) holding.0 in
         and_from _ _ (and_from _ _ w.0 (and_from _ _ w.1 holding.1)) works
 
-    pub return_kept : (len : ℕ) (stage : ReturnStage) → is_told stage len c.head ≡ true
+    pub return_kept : (len : ℕ) (stage : ReturnStage) → is_told stage len c.head ≡ true → may_return stage c.queue ≡ true
         → is_work work.Rest r.pages g ≡ true → is_state s times is_work (phase.Return c len stage) r g ≡ true
-    return_kept len stage told works =
+    return_kept len stage told may works =
         let w = and_parts (are_kept s times r) (is_at_lane r.due) holding.0 in
-        and_from _ _ (and_from _ _ w.0 (and_from _ _ (and_from _ _ w.1 holding.1) told)) works
+        and_from _ _ (and_from _ _ w.0 (and_from _ _ (and_from _ _ (and_from _ _ w.1 holding.1) told) may)) works

@@ -10,26 +10,25 @@ use Rattle.vm_types.specs.Fits.{Fits}
 use Rattle.vm_types.specs.declared.port_look.PortLook.{PortLook}
 use Rattle.vm_types.specs.declared.reply.Reply.{Reply}
 use Rattle.device_trace.specs.Acts.{IsAskedBy}
-use Rattle.device_trace.specs.Doing.{Doing, Gives, Wants}
+use Rattle.device_trace.specs.Doing.{Doing}
 use Rattle.device_trace.specs.Keeps as trees
 use Rattle.device_trace.specs.Script.{Script, Ends, Asks, perform}
 use Rattle.device_trace.specs.States.{Leads, changed_at, stepped, wants}
 use Rattle.device_trace.specs.Traces.{Changing, Item}
 use Rattle.device_trace.proofs.Keeping.{keeps_both, stays_if, stays_perform}
 use Rattle.device_trace.proofs.Leading.{change_keeps, leads_keep, step_keeps, wants_between}
-use Rattle.le_fields.specs.Fields.{field_at}
 use Rattle.vq_split.specs.declared.queue.Queue.{Queue}
 use Rattle.vq_split.specs.declared.queue.Part.{Part}
 use Rattle.vq_split.specs.declared.queue.Why.{Why}
 use Rattle.vq_split.specs.declared.walk.Walk.{Walk}
 use Rattle.vq_split.specs.declared.walk.Walk.TheVariants as walk
-use Rattle.vq_split.specs.Chain.{queue_flaw, chain_walk, read_bytes}
+use Rattle.vq_split.specs.Chain.{indexed_by, queue_flaw, queue_look}
 use Rattle.vq_split.specs.Inside.{IsInside, AreInside, WalkInside}
 use Rattle.vq_split.specs.Walking.{IsSound}
-use Rattle.vq_split.proofs.Inside.{sound, walk_keeps}
+use Rattle.vq_split.proofs.Inside.{indexed_keep, ring_looks, sound}
 use Rattle.dev_core.specs.Inside.{Any}
 use Rattle.dev_core.specs.Returns.{returned, broken}
-use Rattle.dev_core.proofs.Asking.{broken_asks, returned_asks, walk_asks}
+use Rattle.dev_core.proofs.Asking.{broken_asks, indexed_asks, look_asks, returned_asks}
 use Rattle.dev_core.proofs.Inside.{returned_keeps, broken_keeps}
 use Rattle.queue_device.specs.declared.lanes.Due.{Due}
 use Rattle.queue_device.specs.declared.lanes.Due.TheVariants as due
@@ -43,7 +42,7 @@ use Rattle.queue_device.specs.Confined.{is_lane, is_queue, is_waiting}
 use Rattle.queue_device.specs.Lanes.{busy, in_lane, is_running, lane_counted, lane_emptied, lane_freed, lane_given, lane_of}
 use Rattle.queue_device.specs.Lanes.{lane_waiting, next_rounds, round_begun, round_over, with_due}
 use Rattle.queue_device.specs.Rounds.{answered, at_own, at_rounds, begins, begins_at, broken_off, due_behind, due_from, given_back}
-use Rattle.queue_device.specs.Rounds.{goes_on, index_shown, lane, lane_begins, look_begins, looked, next_begins, on_behind, on_from}
+use Rattle.queue_device.specs.Rounds.{goes_on, index_read, index_shown, lane, lane_begins, look_begins, looked, next_begins, on_behind, on_from}
 use Rattle.queue_device.specs.Rounds.{over_begins, own_changing, question_begins, queue_rules, round_broken, round_from, served}
 use Rattle.queue_device.specs.Rounds.{serving, taken, taking, time_asked, time_of, timed, took, wait_begins, walk_begun, walk_from, walked}
 use Rattle.queue_device.specs.Timing.{is_timed_left, timed_due, timed_lane, timed_next}
@@ -175,7 +174,7 @@ module _ {E C : Type 0} (s : Service E) (changing : Changing E C) (times : Bool)
       performs (Any {A = Unit {0}}) t d (λ e done. Ends (given_back s k e))
       (λ few. subst (λ (n : ℕ). trees.Keeps (IsInside n) (Any {A = Unit {0}}) t) (fine few).1
       (returned_keeps p q used head len (fine few).0))
-      (returned_asks (IsAskedBy false calls port) line writes p (inr (at_port d is, tt)) q used head len)
+      (returned_asks (IsAskedBy false calls port) line reads writes p (inr (at_port d is, tt)) q used head len)
       (λ e done left any. given k e (kept d e is left))
 
   -- ---- a chain
@@ -256,19 +255,22 @@ module _ {E C : Type 0} (s : Service E) (changing : Changing E C) (times : Bool)
   shown_by k true d is = is
   shown_by k false d is = is
 
-  from_stays : (k : Which) (next : ℕ) (q : Queue) (t : Doing Walk) (d : D) → R d → Stands q
-      → trees.Keeps P (λ (w : Walk). (pages < 2 ^ 32 → WalkInside pages w) × Any {A = Walk} w) t
+  -- behind the look at the ring
+  read_stays : (k : Which) (next : ℕ) (q : Queue) (d : D) (index : ℕ) → R d → Stands q → Confined (index_read s k next q d index)
+  read_stays k next q d index is fine =
+      let now : D = index_shown s k next index d in
+      let t : Doing Walk = indexed_by q next index in
+      performs (WalkInside pages) t now (walked s k q)
+      (λ few. subst (λ (n : ℕ). trees.Keeps (IsInside n) (WalkInside n) t) (fine few).1 (indexed_keep q next index (fine few).0))
+      (indexed_asks (IsAskedBy false calls port) reads q next index)
+      (λ e came left inside. walked_stays k q e came (kept now e (shown_by k (index == next) d is) left) fine inside)
+
+  pub from_stays : (k : Which) (next : ℕ) (q : Queue) (t : Doing ℕ) (d : D) → R d → Stands q
+      → (pages < 2 ^ 32 → trees.Keeps (IsInside pages) (Any {A = ℕ}) t) → trees.Keeps (IsAskedBy false calls port) (Any {A = ℕ}) t
       → Confined (walk_from s k next q t d)
-  from_stays k next q (Gives came) d is fine keeps = walked_stays k q d came is fine keeps.0
-  from_stays k next q (Wants op more) d is fine keeps = (
-    keeps.0,
-    λ e reply left fit.
-        let now : D = index_shown s k next reply e in
-        let has = shown_by k (field_at (read_bytes 2 reply) 0 2 == next) e (kept d e is left) in
-        stays_perform P R S same again (λ (w : Walk). (pages < 2 ^ 32 → WalkInside pages w) × Any {A = Walk} w) (more reply) now
-        (walked s k q) (keeps.1 reply fit)
-        (λ f came after inside. walked_stays k q f came (kept now f has after) fine inside.0),
-  )
+  from_stays k next q t d is fine inside asks =
+      performs (Any {A = ℕ}) t d (index_read s k next q) inside asks
+      (λ e index left any. read_stays k next q e index (kept d e is left) fine)
 
   begun_stays : (k : Which) (q : Queue) (flaw : Option Why) (d : D) → queue_flaw q ≡ flaw → R d
       → (pages < 2 ^ 32 → q.pages ≡ pages) → Confined (walk_begun s k q flaw d)
@@ -277,13 +279,10 @@ module _ {E C : Type 0} (s : Service E) (changing : Changing E C) (times : Bool)
       let next = (lane s k d).next in
       let fine : Stands q =
       λ few. (sound q (subst (λ (n : ℕ). n < 2 ^ 32) (sym (of_pages few)) few) it, of_pages few) in
-      from_stays k next q (chain_walk q next) d is fine
-      (keeps_both (λ op. pages < 2 ^ 32 → IsInside pages op) (IsAskedBy false calls port)
-      (λ w. pages < 2 ^ 32 → WalkInside pages w) (Any {A = Walk}) (chain_walk q next)
-      (keeps_when (pages < 2 ^ 32) (IsInside pages) (WalkInside pages) (chain_walk q next)
-      (λ few. subst (λ (n : ℕ). trees.Keeps (IsInside n) (WalkInside n) (chain_walk q next)) (of_pages few)
-      (walk_keeps q next (fine few).0)))
-      (walk_asks (IsAskedBy false calls port) reads q next))
+      from_stays k next q (queue_look q next) d is fine
+      (λ few. subst (λ (n : ℕ). trees.Keeps (IsInside n) (Any {A = ℕ}) (queue_look q next)) (of_pages few)
+      (ring_looks q next (fine few).0))
+      (look_asks (IsAskedBy false calls port) reads writes q next)
 
   -- ---- groups
 

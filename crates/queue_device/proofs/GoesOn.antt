@@ -6,19 +6,19 @@ use Rattle.vm_types.specs.declared.op.OutOp.{OutOp}
 use Rattle.vm_types.specs.declared.port_look.PortLook.{PortLook}
 use Rattle.vm_types.specs.declared.reply.Reply.{Reply}
 use Rattle.vm_types.specs.declared.reply.Reply.TheVariants.{Word}
+use Rattle.vm_types.specs.Fits.{Fits}
 use Rattle.device_trace.specs.Doing.{Doing, Gives, Wants, asked, led}
 use Rattle.device_trace.specs.Script.{Script, Ends, Asks, perform}
 use Rattle.device_trace.specs.States.{changed_at, stepped, wants}
 use Rattle.device_trace.specs.Traces.{Changing, cut_by, root_next, root_op}
-use Rattle.le_fields.specs.Fields.{field_at}
 use Rattle.vq_split.specs.declared.queue.Queue.{Queue}
 use Rattle.vq_split.specs.declared.queue.Why.{Why}
 use Rattle.vq_split.specs.declared.walk.Walk.{Walk}
 use Rattle.vq_split.specs.declared.walk.Walk.TheVariants as walk
-use Rattle.vq_split.specs.Chain.{chain_walk, queue_flaw, read_bytes}
+use Rattle.vq_split.specs.Chain.{index_in, index_seen, indexed_by, queue_flaw}
 use Rattle.vq_split.specs.Inside.{AreInside}
-use Rattle.vq_split.specs.Kept.{is_walking}
-use Rattle.vq_split.specs.Walking.{IsSound, walk_left, walk_of, walk_wants}
+use Rattle.vq_split.specs.Kept.{IsWalking, is_walking}
+use Rattle.vq_split.specs.Walking.{IsSound, Walking, look_left, walk_left, walk_wants}
 use Rattle.vq_split.proofs.Inside.{sound}
 use Rattle.vq_split.proofs.Kept.{is_eq, test_of_sound, test_of_walking}
 use Rattle.dev_core.specs.declared.breaking.BreakStage.{BreakStage}
@@ -27,8 +27,8 @@ use Rattle.dev_core.specs.declared.returning.ReturnStage.{ReturnStage}
 use Rattle.dev_core.specs.declared.returning.ReturnStage.TheVariants as returning
 use Rattle.dev_core.specs.declared.returning.UsedChain.{UsedChain}
 use Rattle.dev_core.specs.Inside.{Any}
-use Rattle.dev_core.specs.Returning.{break_left, return_left}
-use Rattle.dev_core.specs.Returns.{broke, index_written, length_written, line_raised, pair_place}
+use Rattle.dev_core.specs.Returning.{break_left, may_return, return_left}
+use Rattle.dev_core.specs.Returns.{broke, event_read, index_written, interrupted, length_written, line_raised, pair_place}
 use Rattle.queue_device.specs.declared.lanes.Due.{Due}
 use Rattle.queue_device.specs.declared.lanes.Due.TheVariants as due
 use Rattle.queue_device.specs.declared.lanes.Lane.{Lane}
@@ -45,18 +45,19 @@ use Rattle.queue_device.specs.Chains.{Chain, Taken}
 use Rattle.queue_device.specs.Confined.{Confines, IsChain, is_lane, is_queue, is_waiting}
 use Rattle.queue_device.specs.Kept.{is_asking, is_at_lane, is_in_hand, is_next, is_of_round, is_over, is_own_lane, is_place, is_state, is_taken_of, is_told, is_walked, work_of}
 use Rattle.queue_device.specs.Lanes.{busy, in_lane, is_running, lane_counted, lane_emptied, lane_freed, lane_given, lane_of, lane_waiting, new_rounds, round_begun, round_over, with_due}
-use Rattle.queue_device.specs.Left.{Hand, Holds, is_between, left_at, queued, used_chain}
+use Rattle.queue_device.specs.Left.{Hand, Holds, is_between, left_at, queued, used_chain, walk_on}
 use Rattle.queue_device.specs.Resuming.{AreShort, Goes, HasKept, IsShortChain, IsShortLane, IsShortTaken, Resumes, answering_of, serving_of, taking_of}
 use Rattle.queue_device.specs.Rounds.{answered, at_own, at_rounds, begins_at, broken_off, due_behind, due_from, during, given_back}
 use Rattle.queue_device.specs.Rounds.{lane_begins, looked, next_begins, on_behind, on_from, over_begins, queue_rules}
-use Rattle.queue_device.specs.Rounds.{round_broken, round_from, served, serving, time_of, timed, time_asked, took, walk_begun, walked}
+use Rattle.queue_device.specs.Rounds.{round_broken, round_from, served, serving, time_of, timed, time_asked, took, walk_begun, walk_from, walked}
 use Rattle.queue_device.specs.Service.{Queued, Service}
-use Rattle.queue_device.specs.Sizes.{IsHead, IsLength, IsNarrowLane, IsNarrowPhase, IsReplyTo, IsSmallReply}
+use Rattle.queue_device.specs.Sizes.{IsHead, IsLength, IsNarrowLane, IsNarrowPhase, IsNarrowStage, IsReplyTo, IsSmallReply}
 use Rattle.queue_device.proofs.Keeping.{chain_of, lane_held, lane_is, new_are, rounds_of, test_of_chain}
 use Rattle.queue_device.proofs.KeptRounds.{IsNext, IsRound, at_in, behind_worked, from_worked, lane_due, new_own, next_in, next_is, over_next, own_lane, queue_in, round_begun_is, round_in, round_of, round_over_is, short_new, short_of, test_of_kept}
 use Rattle.queue_device.proofs.Places.{Held, held_of, held_round, held_some, lane_queue, of_shown, walking_is}
-use Rattle.queue_device.proofs.Steps.{holds_break, holds_question, holds_return, holds_serve, holds_take, holds_walk, perform_next}
-use Rattle.queue_device.proofs.Walks.{IsCome, WalkGoes, walk_asks, walk_goes}
+use Rattle.queue_device.proofs.Steps.{holds_break, holds_question, holds_return, holds_serve, holds_take, holds_walk, on_next, on_op}
+use Rattle.queue_device.proofs.Steps.{FirstAsks, perform_next, walk_first}
+use Rattle.queue_device.proofs.Walks.{IsCome, LookGoes, WalkGoes, indexed, look_goes, seen_goes, walk_asks, walk_goes}
 
 -- ---- what is wanted while a chain is given back, or a broken queue is told
 
@@ -73,6 +74,7 @@ pub return_asks : (stage : ReturnStage) (c : UsedChain) → (op : Op) × (asked 
 return_asks returning.Pair c = either_asks (pair_place c.queue c.used % 4096 == 4092) _ _ _ _
 return_asks returning.Half c = (_, refl)
 return_asks returning.Index c = (_, refl)
+return_asks returning.Event c = (_, refl)
 return_asks returning.Interrupt c = (_, refl)
 return_asks returning.Line c = (_, refl)
 
@@ -173,7 +175,7 @@ module _ {E G C : Type 0} (s : Service E) (changing : Changing E C) (hand : G �
   served_on k q head r e None narrow long w h fine = broken_on k r e w (held_some times _ q h.2) fine
   served_on k q head r e (Some len) narrow long w h fine =
       kept_at (phase.Return (hold k q head) len returning.Pair) r e owes.rest _ (λ is. (narrow is, long is)) w.0 w.1
-      (and_from _ _ (and_from _ _ w.2 (in_hand k q head r w.0 h)) refl) (owes.rests pages) fine refl
+      (and_from _ _ (and_from _ _ (and_from _ _ w.2 (in_hand k q head r w.0 h)) refl) refl) (owes.rests pages) fine refl
 
   serving_on : (k : Which) (q : Queue) (head : ℕ) (r : Rounds) (t : Acting E (Option ℕ)) → Where (IsHead head) → Working r
       → Hand_of k q r → Goes s hand is_work IsFine sized serving_of (work.Serve k) pages (IsLength sized) t
@@ -286,21 +288,63 @@ module _ {E G C : Type 0} (s : Service E) (changing : Changing E C) (hand : G �
   walked_on k q r e (walk.Broken why) w h fine is = broken_on k r e w (held_some times _ q h.2) fine
   walked_on k q r e walk.More w h fine is = ended r e w.0 w.1 fine
 
-  walk_on : (k : Which) (q : Queue) (next : ℕ) (t : Doing Walk) (r : Rounds) (e : E) → Working r
+  walks_on : (k : Which) (q : Queue) (next : ℕ) (t : Doing Walk) (r : Rounds) (e : E) → Working r
       → is_of_round (lane_of k r).queue q ≡ true → (next == (lane_of k r).next) ≡ true → IsSound q → q.pages ≡ pages
       → IsFine e → WalkGoes sized q next t → Kept (perform t (queued r e) (walked s k q))
-  walk_on k q next t r e w of number fine_queue of_pages fine (inl v) =
+  walks_on k q next t r e w of number fine_queue of_pages fine (inl v) =
       let l = lane_of k r in
       let walks : is_walked l v.walk ≡ true =
       and_from _ _
       (and_from _ _ (test_of_walking v.walk v.is) (subst (λ (x : Queue). is_of_round l.queue x ≡ true) (sym v.queue) of))
       (subst (λ (n : ℕ). (n == l.next) ≡ true) (sym v.number) number) in
       kept_at (phase.Walk k v.walk) r e owes.rest _ v.narrow w.0 w.1 (and_from _ _ w.2 walks) (owes.rests pages) fine
-      (subst (λ (x : Queue). perform (walk_left v.walk) (queued r e) (walked s k x) ≡ perform t (queued r e) (walked s k q))
-      (sym v.queue) (ap (λ (u : Doing Walk). perform u (queued r e) (walked s k q)) v.left))
-  walk_on k q next t r e w of number fine_queue of_pages fine (inr v) =
+      (ap (λ (o : Option (Doing ℕ)). walk_on s k v.walk o (queued r e)) v.past
+      ∙ (λ i. perform (v.left i) (queued r e) (walked s k (v.queue i))))
+  walks_on k q next t r e w of number fine_queue of_pages fine (inr v) =
       subst (λ (u : Doing Walk). Kept (perform u (queued r e) (walked s k q))) (sym v.left)
       (walked_on k q r e v.came w (fine_queue, of_pages, held_round times _ q of) fine v.is)
+
+  -- behind an index that counts, by which it is begun or isn't
+  shown_by : (test : Bool) (k : Which) (q : Queue) (next : ℕ) (t : Doing Walk) (r : Rounds) (e : E) → Working r
+      → is_of_round (lane_of k r).queue q ≡ true → (next == (lane_of k r).next) ≡ true → IsSound q → q.pages ≡ pages
+      → IsFine e → WalkGoes sized q next t
+      → Kept (perform t (if test then queued r e else at_own (s.begun k) (queued r e)) (walked s k q))
+  shown_by true k q next t r e w of number sure of_pages fine goes = walks_on k q next t r e w of number sure of_pages fine goes
+  shown_by false k q next t r e w of number sure of_pages fine goes =
+      walks_on k q next t r (s.begun k e) w of number sure of_pages (owes.begun k e fine) goes
+
+  -- a look at the ring
+  looks_on : (k : Which) (q : Queue) (next : ℕ) (t : Doing ℕ) (r : Rounds) (e : E) → Working r
+      → is_of_round (lane_of k r).queue q ≡ true → (next == (lane_of k r).next) ≡ true → IsSound q → q.pages ≡ pages
+      → IsFine e → LookGoes sized q next t → Kept (walk_from s k next q t (queued r e))
+  looks_on k q next t r e w of number sure of_pages fine (inl v) =
+      let l = lane_of k r in
+      let walks : is_walked l v.walk ≡ true =
+      and_from _ _
+      (and_from _ _ (test_of_walking v.walk v.is) (subst (λ (x : Queue). is_of_round l.queue x ≡ true) (sym v.queue) of))
+      (subst (λ (n : ℕ). (n == l.next) ≡ true) (sym v.number) number) in
+      kept_at (phase.Walk k v.walk) r e owes.rest _ v.narrow w.0 w.1 (and_from _ _ w.2 walks) (owes.rests pages) fine
+      (ap (λ (o : Option (Doing ℕ)). walk_on s k v.walk o (queued r e)) v.looks
+      ∙ (λ i. walk_from s k (v.number i) (v.queue i) t (queued r e)))
+  looks_on k q next t r e w of number sure of_pages fine (inr v) =
+      subst (λ (u : Doing ℕ). Kept (walk_from s k next q u (queued r e))) (sym v.left)
+      (shown_by (v.index == next) k q next (indexed_by q next v.index) r e w of number sure of_pages fine
+      (indexed sized q next v.index sure))
+
+  -- a reply to a walk
+  led_on_walk : (o : Option (Doing ℕ)) (k : Which) (v : Walking) (r : Rounds) (e : E) (reply : Reply) → look_left v.stage v.queue v.next ≡ o
+      → FirstAsks (walk_wants v) (walk_left v) o → Where (IsNarrowStage v.stage) → Working r
+      → is_of_round (lane_of k r).queue v.queue ≡ true → (v.next == (lane_of k r).next) ≡ true → IsWalking v → v.queue.pages ≡ pages
+      → IsFine e → IsReplyTo sized (root_op (walk_on s k v o (queued r e))) reply
+      → Kept (root_next (walk_on s k v o (queued r e)) reply)
+  led_on_walk (Some t) k v r e reply is asks narrow w of number sure of_pages fine fit =
+      subst Kept (sym (on_next s k v (walk_wants v) (Some t) (queued r e) reply asks))
+      (looks_on k v.queue v.next (led t reply) r e w of number sure.sound of_pages fine (look_goes sized v t reply is sure))
+  led_on_walk None k v r e reply is asks narrow w of number sure of_pages fine fit =
+      let own = subst (λ (op : Op). Fits op reply) (on_op s k v (walk_wants v) None (queued r e) asks) fit.0 in
+      subst Kept (sym (on_next s k v (walk_wants v) None (queued r e) reply asks))
+      (walks_on k v.queue v.next (led (walk_left v) reply) r e w of number sure.sound of_pages fine
+      (walk_goes sized v reply is sure narrow own fit.1))
 
   -- ---- a chain is given back, a broken queue is told
 
@@ -312,10 +356,10 @@ module _ {E G C : Type 0} (s : Service E) (changing : Changing E C) (hand : G �
       (λ f done. Ends (given_back s c.which f)))
   pair_on true a b c len r e reply long w h fine =
       kept_at (phase.Return (hold c.which c.queue 0) len returning.Half) r e owes.rest _ (λ is. (omega arith, long is)) w.0 w.1
-      (and_from _ _ (and_from _ _ w.2 h) refl) (owes.rests pages) fine refl
+      (and_from _ _ (and_from _ _ (and_from _ _ w.2 h) refl) refl) (owes.rests pages) fine refl
   pair_on false a b c len r e reply long w h fine =
       kept_at (phase.Return (hold c.which c.queue 0) 0 returning.Index) r e owes.rest _ (λ is. (omega arith, omega arith)) w.0 w.1
-      (and_from _ _ (and_from _ _ w.2 h) refl) (owes.rests pages) fine refl
+      (and_from _ _ (and_from _ _ (and_from _ _ w.2 h) refl) refl) (owes.rests pages) fine refl
 
   given_on : (k : Which) (r : Rounds) (e : E) → Working r → is_some (lane_of k r).queue ≡ true → IsFine e
       → Kept (Ends (given_back s k (queued r e)))
@@ -326,6 +370,28 @@ module _ {E G C : Type 0} (s : Service E) (changing : Changing E C) (hand : G �
   hand_some : (c : InHand) (r : Rounds) → is_in_hand times c r ≡ true → is_some (lane_of c.which r).queue ≡ true
   hand_some c r is = held_some times _ c.queue (and_parts _ (is_taken_of times (lane_of c.which r).queue c.queue) is).1
 
+  -- the port's interrupt
+  interrupts_on : (c : InHand) (r : Rounds) (e : E) → Working r → is_in_hand times c r ≡ true → IsFine e
+      → Kept (perform (interrupted r.port) (queued r e) (λ f done. Ends (given_back s c.which f)))
+  interrupts_on c r e w h fine =
+      kept_at (phase.Return (hold c.which c.queue 0) 0 returning.Interrupt) r e owes.rest _ (λ is. (omega arith, omega arith)) w.0 w.1
+      (and_from _ _ (and_from _ _ (and_from _ _ w.2 h) refl) refl) (owes.rests pages) fine refl
+
+  -- at once, or where the driver's event says so
+  told_on : (has : Bool) (c : InHand) (r : Rounds) (e : E) → c.queue.accepted.event_index ≡ has → Working r → is_in_hand times c r ≡ true
+      → IsFine e
+      → Kept (perform (if has then event_read r.port c.queue (lane_of c.which r).used else interrupted r.port) (queued r e)
+      (λ f done. Ends (given_back s c.which f)))
+  told_on true c r e is w h fine =
+      kept_at (phase.Return (hold c.which c.queue 0) 0 returning.Event) r e owes.rest _ (λ yes. (omega arith, omega arith)) w.0 w.1
+      (and_from _ _ (and_from _ _ (and_from _ _ w.2 h) refl) is) (owes.rests pages) fine refl
+  told_on false c r e is w h fine = interrupts_on c r e w h fine
+
+  event_on : (test : Bool) (c : InHand) (r : Rounds) (e : E) → Working r → is_in_hand times c r ≡ true → IsFine e
+      → Kept (perform (if test then interrupted r.port else Gives tt) (queued r e) (λ f done. Ends (given_back s c.which f)))
+  event_on true c r e w h fine = interrupts_on c r e w h fine
+  event_on false c r e w h fine = given_on c.which r e w (hand_some c r h) fine
+
   returns_on : (stage : ReturnStage) (c : InHand) (len : ℕ) (r : Rounds) (e : E) (reply : Reply) → Where (len < 2 ^ 32)
       → Working r → is_in_hand times c r ≡ true → IsFine e
       → Kept (perform (led (return_left stage (used_chain c len r)) reply) (queued r e)
@@ -334,13 +400,13 @@ module _ {E G C : Type 0} (s : Service E) (changing : Changing E C) (hand : G �
       pair_on (pair_place c.queue (lane_of c.which r).used % 4096 == 4092) _ _ c len r e reply long w h fine
   returns_on returning.Half c len r e reply long w h fine =
       kept_at (phase.Return (hold c.which c.queue 0) 0 returning.Index) r e owes.rest _ (λ is. (omega arith, omega arith)) w.0 w.1
-      (and_from _ _ (and_from _ _ w.2 h) refl) (owes.rests pages) fine refl
-  returns_on returning.Index c len r e reply long w h fine =
-      kept_at (phase.Return (hold c.which c.queue 0) 0 returning.Interrupt) r e owes.rest _ (λ is. (omega arith, omega arith)) w.0 w.1
-      (and_from _ _ (and_from _ _ w.2 h) refl) (owes.rests pages) fine refl
+      (and_from _ _ (and_from _ _ (and_from _ _ w.2 h) refl) refl) (owes.rests pages) fine refl
+  returns_on returning.Index c len r e reply long w h fine = told_on c.queue.accepted.event_index c r e refl w h fine
+  returns_on returning.Event c len r e reply long w h fine =
+      event_on ((lane_of c.which r).used == index_in reply) c r e w h fine
   returns_on returning.Interrupt c len r e reply long w h fine =
       kept_at (phase.Return (hold c.which c.queue 0) 0 returning.Line) r e owes.rest _ (λ is. (omega arith, omega arith)) w.0 w.1
-      (and_from _ _ (and_from _ _ w.2 h) refl) (owes.rests pages) fine refl
+      (and_from _ _ (and_from _ _ (and_from _ _ w.2 h) refl) refl) (owes.rests pages) fine refl
   returns_on returning.Line c len r e reply long w h fine = given_on c.which r e w (hand_some c r h) fine
 
   broken_ends : (k : Which) (r : Rounds) (e : E) → Working r → IsFine e → Kept (Ends (broken_off s k (queued r e)))
@@ -393,9 +459,8 @@ module _ {E G C : Type 0} (s : Service E) (changing : Changing E C) (hand : G �
       let is = walking_is s times port pages few k v r it.0 at.1 in
       let p1 = and_parts _ (v.next == (lane_of k r).next) at.1 in
       let p0 = and_parts (is_walking v) (is_of_round (lane_of k r).queue v.queue) p1.0 in
-      subst Kept (sym (perform_next (walk_left v) (queued r e) (walked s k v.queue) (walk_wants v) reply (walk_asks v is.0)))
-      (walk_on k v.queue v.next (led (walk_left v) reply) r e (it, next, at.0) p0.1 p1.1 is.0.sound is.1 fine
-      (walk_goes sized v reply is.0 narrow))
+      led_on_walk (look_left v.stage v.queue v.next) k v r e reply refl (walk_first v (walk_wants v) (walk_asks v is.0)) narrow
+      (it, next, at.0) p0.1 p1.1 is.0 is.1 fine fit
   inside_on (phase.Take c) r e g reply narrow it next place works fine fit =
       let at = and_parts (is_at_lane r.due) (is_in_hand times c r) place in
       taking_on c.which c.queue c.head r ((hand g).taking e reply) narrow (it, next, at.0) (held_of s times port pages few c r it.0 at.1)
@@ -405,7 +470,8 @@ module _ {E G C : Type 0} (s : Service E) (changing : Changing E C) (hand : G �
       serving_on c.which c.queue c.head r ((hand g).serving e reply) narrow (it, next, at.0) (held_of s times port pages few c r it.0 at.1)
       (owes.serving pages c.which g e reply small fine works fit)
   inside_on (phase.Return c len stage) r e g reply narrow it next place works fine fit =
-      let p1 = and_parts _ (is_told stage len c.head) place in
+      let p2 = and_parts _ (may_return stage c.queue) place in
+      let p1 = and_parts _ (is_told stage len c.head) p2.0 in
       let p0 = and_parts (is_at_lane r.due) (is_in_hand times c r) p1.0 in
       let asks = return_asks stage (used_chain c len r) in
       subst Kept (sym (perform_next (return_left stage (used_chain c len r)) (queued r e)
@@ -521,14 +587,6 @@ module _ {E G C : Type 0} (s : Service E) (changing : Changing E C) (hand : G �
         timed_on (s.passes k c (time_of reply) e) e (time_of reply) (moment_small reply fit.1) refl fine
     goes_by false e reply fine fit = root_on _ reply (freed_on e fine) fit
 
-  shown_by : (test : Bool) (k : Which) (q : Queue) (next : ℕ) (t : Doing Walk) (r : Rounds) (e : E) → Working r
-      → is_of_round (lane_of k r).queue q ≡ true → (next == (lane_of k r).next) ≡ true → IsSound q → q.pages ≡ pages
-      → IsFine e → WalkGoes sized q next t
-      → Kept (perform t (if test then queued r e else at_own (s.begun k) (queued r e)) (walked s k q))
-  shown_by true k q next t r e w of number sure of_pages fine goes = walk_on k q next t r e w of number sure of_pages fine goes
-  shown_by false k q next t r e w of number sure of_pages fine goes =
-      walk_on k q next t r (s.begun k e) w of number sure of_pages (owes.begun k e fine) goes
-
   flaw_on : (flaw : Option Why) (k : Which) (q : Queue) (r : Rounds) (e : E) (reply : Reply) → queue_flaw q ≡ flaw
       → Working r → (lane_of k r).queue ≡ Some q → q.pages ≡ pages → IsFine e
       → Kept (root_next (walk_begun s k q flaw (queued r e)) reply)
@@ -537,9 +595,8 @@ module _ {E G C : Type 0} (s : Service E) (changing : Changing E C) (hand : G �
   flaw_on None k q r e reply is w shown of_pages fine =
       let next = (lane_of k r).next in
       let sure = sound q (subst (λ (n : ℕ). n < 2 ^ 32) (sym of_pages) few) is in
-      shown_by (field_at (read_bytes 2 reply) 0 2 == next) k q next (led (chain_walk q next) reply) r e w
-      (of_shown (lane_of k r).queue q shown) (is_eq next next refl) sure of_pages fine
-      (walk_goes sized (walk_of q next) reply (record { sound = sure; stage = refl; inside = tt }) (λ is. tt))
+      looks_on k q next (index_seen q next (index_in reply)) r e w (of_shown (lane_of k r).queue q shown) (is_eq next next refl) sure
+      of_pages fine (seen_goes sized q next sure (index_in reply))
 
   waits_where : (b : Bool) (c : Chain) → (b || not (is_some (Some c))) ≡ true → b ≡ true
   waits_where true c is = refl

@@ -1,6 +1,7 @@
 -- What a look, a chain and a round's end leave of rounds: the rounds of a device of this port and of so many pages.
 use Rattle.std.proofs.Common.{◌≡◌, ℕ, ◌^◌, ◌==◌, ◌<◌, refl, sym, subst, Bool, true, false, if◌then◌else◌, Option, Some, None}
 use Rattle.std.proofs.lemmas.Bool.{and_from, and_parts, eqb-true}
+use Rattle.vm_types.specs.declared.port_look.Accepted.{Accepted}
 use Rattle.vm_types.specs.declared.port_look.PortLook.{PortLook}
 use Rattle.vm_types.specs.declared.port_look.QueueShown.{QueueShown}
 use Rattle.vq_split.specs.Kept.{are_inside, is_sound}
@@ -53,20 +54,21 @@ module _ {E : Type 0} (s : Service E) where
     reset_lane k true l is = refl
     reset_lane k false l is = is
 
-    shown_queue : (test : Bool) (shown : QueueShown)
-        → is_queue s pages (if test then Some (queue_shown pages shown) else None) ≡ true
-    shown_queue true shown = is_eq pages pages refl
-    shown_queue false shown = refl
+    shown_queue : (test : Bool) (accepted : Accepted) (shown : QueueShown)
+        → is_queue s pages (if test then Some (queue_shown pages accepted shown) else None) ≡ true
+    shown_queue true accepted shown = is_eq pages pages refl
+    shown_queue false accepted shown = refl
 
-    looked_lane : (k : Which) (status : ℕ) (shown : QueueShown) (l : Lane) → is_lane s pages k l ≡ true
-        → is_lane s pages k (lane_looked pages status shown l) ≡ true
-    looked_lane k status shown l is =
-        and_from _ _ (shown_queue (is_workable status shown) shown)
+    looked_lane : (k : Which) (accepted : Accepted) (status : ℕ) (shown : QueueShown) (l : Lane) → is_lane s pages k l ≡ true
+        → is_lane s pages k (lane_looked pages accepted status shown l) ≡ true
+    looked_lane k accepted status shown l is =
+        and_from _ _ (shown_queue (is_workable status shown) accepted shown)
         (and_parts (is_queue s pages l.queue) (is_waiting s pages k l.waiting) is).1
 
     seen_lane : (k : Which) (has : Bool) (look : PortLook) (shown : QueueShown) (l : Lane) → is_lane s pages k l ≡ true
         → is_lane s pages k (lane_seen has pages look shown l) ≡ true
-    seen_lane k true look shown l is = looked_lane k look.status shown (lane_reset look.was_reset l) (reset_lane k look.was_reset l is)
+    seen_lane k true look shown l is =
+        looked_lane k look.accepted look.status shown (lane_reset look.was_reset l) (reset_lane k look.was_reset l is)
     seen_lane k false look shown l is = is
 
   -- ---- rounds

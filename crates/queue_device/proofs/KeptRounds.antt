@@ -2,6 +2,7 @@
 use Rattle.std.proofs.Common.{◌≡◌, ℕ, ◌==◌, refl, sym, subst, ◌∙◌, Bool, true, false, not, if◌then◌else◌, Option, Some, None, is_some, arith}
 use Rattle.std.specs.Prelude.{IfSome}
 use Rattle.std.proofs.lemmas.Bool.{and_from, and_parts, or_right}
+use Rattle.vm_types.specs.declared.port_look.Accepted.{Accepted}
 use Rattle.vm_types.specs.declared.port_look.PortLook.{PortLook}
 use Rattle.vm_types.specs.declared.port_look.QueueShown.{QueueShown}
 use Rattle.vm_types.specs.declared.reply.Reply.{Reply}
@@ -57,24 +58,24 @@ module _ (sized : Bool) where
   short_reset true l short = short_new
   short_reset false l short = short
 
-  shown_narrow : (test : Bool) (pages : ℕ) (shown : QueueShown) → IsSmallShown shown
-      → IfSome (if test then Some (queue_shown pages shown) else None) IsNarrowQueue
-  shown_narrow true pages shown is = record { descriptors = is.descriptors; available = is.available; used = is.used; size = is.size }
-  shown_narrow false pages shown is = tt
+  shown_narrow : (test : Bool) (pages : ℕ) (accepted : Accepted) (shown : QueueShown) → IsSmallShown shown
+      → IfSome (if test then Some (queue_shown pages accepted shown) else None) IsNarrowQueue
+  shown_narrow true pages accepted shown is = record { descriptors = is.descriptors; available = is.available; used = is.used; size = is.size }
+  shown_narrow false pages accepted shown is = tt
 
-  short_looked : (pages status : ℕ) (shown : QueueShown) (l : Lane) → (sized ≡ true → IsSmallShown shown) → IsShortLane sized l
-      → IsShortLane sized (lane_looked pages status shown l)
-  short_looked pages status shown l small short = (
+  short_looked : (pages status : ℕ) (accepted : Accepted) (shown : QueueShown) (l : Lane) → (sized ≡ true → IsSmallShown shown)
+      → IsShortLane sized l → IsShortLane sized (lane_looked pages accepted status shown l)
+  short_looked pages status accepted shown l small short = (
     short.0,
     λ is.
         let n = short.1 is in
-        record { queue = shown_narrow (is_workable status shown) pages shown (small is); next = n.next; used = n.used },
+        record { queue = shown_narrow (is_workable status shown) pages accepted shown (small is); next = n.next; used = n.used },
   )
 
   short_seen : (has : Bool) (pages : ℕ) (look : PortLook) (shown : QueueShown) (l : Lane) → (sized ≡ true → IsSmallShown shown)
       → IsShortLane sized l → IsShortLane sized (lane_seen has pages look shown l)
   short_seen true pages look shown l small short =
-      short_looked pages look.status shown (lane_reset look.was_reset l) small (short_reset look.was_reset l short)
+      short_looked pages look.status look.accepted shown (lane_reset look.was_reset l) small (short_reset look.was_reset l short)
   short_seen false pages look shown l small short = short
 
 -- a queue that the round works on is one of the device's

@@ -3,20 +3,19 @@ use Rattle.std.proofs.Common.{ℕ, ◌==◌, ◌&&◌, Bool, true, false, if◌t
 use Rattle.std.specs.Prelude.{unwrap_or}
 use Rattle.vm_types.specs.declared.reply.Reply.{Reply}
 use Rattle.vm_types.specs.Fits.{Fits}
-use Rattle.device_trace.specs.Doing.{Doing, Gives, Wants}
+use Rattle.device_trace.specs.Doing.{Doing}
 use Rattle.device_trace.specs.Keeps.{Moves}
 use Rattle.device_trace.specs.Script.{Script, Ends, Asks, data_of, perform}
 use Rattle.device_trace.specs.States.{stepped, wants}
 use Rattle.device_trace.specs.Traces.{Changing, root_next, root_op}
 use Rattle.device_trace.proofs.Moving.{moves_from, moves_on, moves_perform, moves_to}
-use Rattle.le_fields.specs.Fields.{field_at}
 use Rattle.vq_split.specs.declared.queue.Part.{Part}
 use Rattle.vq_split.specs.declared.queue.Queue.{Queue}
 use Rattle.vq_split.specs.declared.queue.Why.{Why}
 use Rattle.vq_split.specs.declared.walk.Walk.{Walk}
 use Rattle.vq_split.specs.declared.walk.Walk.TheVariants as walk
-use Rattle.vq_split.specs.Chain.{chain_walk, queue_flaw, read_bytes}
-use Rattle.vq_split.specs.Walking.{walk_left}
+use Rattle.vq_split.specs.Chain.{indexed_by, queue_flaw, queue_look}
+use Rattle.vq_split.specs.Walking.{Walking, look_left, walk_left}
 use Rattle.dev_core.specs.Returning.{break_left, return_left}
 use Rattle.dev_core.specs.Returns.{broken, returned}
 use Rattle.queue_device.specs.declared.lanes.Due.{Due}
@@ -29,10 +28,10 @@ use Rattle.queue_device.specs.declared.phase.Phase.TheVariants as phase
 use Rattle.queue_device.specs.Acting.{Acting, Acts, Comes}
 use Rattle.queue_device.specs.Chains.{Chain, Taken}
 use Rattle.queue_device.specs.Lanes.{busy, in_lane, is_running, lane_counted, lane_freed, lane_waiting, round_begun, round_over, with_due}
-use Rattle.queue_device.specs.Left.{Hand, left_at, used_chain}
+use Rattle.queue_device.specs.Left.{Hand, left_at, used_chain, walk_on}
 use Rattle.queue_device.specs.Owning.{ActingMoves, HandLeaves, Leaves}
 use Rattle.queue_device.specs.Rounds.{answered, at_own, at_rounds, begins, begins_at, broken_off, due_from, during, given_back}
-use Rattle.queue_device.specs.Rounds.{lane, lane_begins, look_begins, looked, next_begins, on_from}
+use Rattle.queue_device.specs.Rounds.{index_read, lane, lane_begins, look_begins, looked, next_begins, on_from}
 use Rattle.queue_device.specs.Rounds.{over_begins, question_begins, queue_rules, round_broken, served, serving, taking}
 use Rattle.queue_device.specs.Rounds.{time_asked, time_of, timed, took, wait_begins, walk_begun, walk_from, walked}
 use Rattle.queue_device.specs.Service.{Queued, Service}
@@ -120,14 +119,13 @@ module _ {E : Type 0} (s : Service E) (T : E → E → Type 0) (leaves : Leaves 
       from d (at_own (s.begun k) d) (perform t (at_own (s.begun k) d) (walked s k q)) (leaves.begun k d.own)
       (performs t (at_own (s.begun k) d) (walked s k q) (λ e came. walked_moves k q e came))
 
-  walk_moves : (k : Which) (next : ℕ) (q : Queue) (t : Doing Walk) (d : Queued E) → Moved d (walk_from s k next q t d)
-  walk_moves k next q (Gives came) d = walked_moves k q d came
-  walk_moves k next q (Wants op more) d =
-      (same d, λ e reply fit. shown_moves (field_at (read_bytes 2 reply) 0 2 == next) k q (more reply) e)
+  walk_moves : (k : Which) (next : ℕ) (q : Queue) (t : Doing ℕ) (d : Queued E) → Moved d (walk_from s k next q t d)
+  walk_moves k next q t d =
+      performs t d (index_read s k next q) (λ e index. shown_moves (index == next) k q (indexed_by q next index) e)
 
   begun_moves : (k : Which) (q : Queue) (flaw : Option Why) (d : Queued E) → Moved d (walk_begun s k q flaw d)
   begun_moves k q (Some why) d = broken_moves k d
-  begun_moves k q None d = walk_moves k (lane s k d).next q (chain_walk q (lane s k d).next) d
+  begun_moves k q None d = walk_moves k (lane s k d).next q (queue_look q (lane s k d).next) d
 
   -- ---- groups
 
@@ -228,6 +226,10 @@ module _ {E : Type 0} (s : Service E) (T : E → E → Type 0) (leaves : Leaves 
   step_moves changing (Asks d op on) reply left fit = from_of d (on d reply) (left.1 d reply fit)
 
   -- what is left where a device is begins with its data, and moves them so
+  walk_on_moves : (k : Which) (w : Walking) (look : Option (Doing ℕ)) (d : Queued E) → Moved d (walk_on s k w look d)
+  walk_on_moves k w (Some look) d = walk_moves k w.next w.queue look d
+  walk_on_moves k w None d = performs (walk_left w) d (walked s k w.queue) (λ e came. walked_moves k w.queue e came)
+
   at_moves : (p : Phase) (h : Hand E) (d : Queued E) → HandLeaves T h → Moved d (left_at s p h d)
   at_moves phase.Between h d hand = same d
   at_moves phase.Question h d hand = (
@@ -235,8 +237,7 @@ module _ {E : Type 0} (s : Service E) (T : E → E → Type 0) (leaves : Leaves 
     λ e reply fit. moves_during (h.answering e.own reply) e e.rounds (answered s) (hand.answering e.own reply)
         (λ f received. busy_moves received f),
   )
-  at_moves (phase.Walk k walk) h d hand =
-      performs (walk_left walk) d (walked s k walk.queue) (λ e came. walked_moves k walk.queue e came)
+  at_moves (phase.Walk k walk) h d hand = walk_on_moves k walk (look_left walk.stage walk.queue walk.next) d
   at_moves (phase.Take c) h d hand = (
     same d,
     λ e reply fit. moves_during (h.taking e.own reply) e e.rounds (took s c.which c.queue c.head) (hand.taking e.own reply)

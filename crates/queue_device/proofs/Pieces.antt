@@ -16,7 +16,8 @@ use Rattle.vq_split.proofs.Kept.{are_of, inside_of}
 use Rattle.dev_core.specs.declared.collect.Collect.{Collect}
 use Rattle.dev_core.specs.Collecting.{collect_left}
 use Rattle.dev_core.specs.Pieces.{Got, past, place, put_all, room, share, total}
-use Rattle.dev_core.proofs.Fuel.{bytes_fit, collect_led, collect_more, put_more}
+use Rattle.vq_split.proofs.Steps.{bytes_fit}
+use Rattle.dev_core.proofs.Fuel.{collect_led, collect_more, put_more}
 use Rattle.dev_core.proofs.Inside.{filter_inside, past_inside}
 use Rattle.queue_device.specs.Sizes.{IsSmallReply}
 use Rattle.queue_device.proofs.Spilling.{spill_on}

@@ -9,18 +9,24 @@ use Rattle.queue_device.specs.declared.lanes.Rounds.{Rounds}
 use Rattle.queue_device.specs.declared.lanes.Which.{Which}
 use Rattle.queue_device.specs.declared.phase.InHand.{InHand}
 use Rattle.queue_device.specs.Confined.{are_rounds, is_queue, is_waiting}
-use Rattle.queue_device.specs.Kept.{is_in_hand, is_of_round, is_same_queue, is_taken_of, is_walked}
+use Rattle.queue_device.specs.Kept.{is_in_hand, is_of_round, is_same_bool, is_same_queue, is_taken_of, is_walked}
 use Rattle.queue_device.specs.Lanes.{lane_of}
 use Rattle.queue_device.specs.Service.{Service}
 use Rattle.queue_device.proofs.Keeping.{lane_is, rounds_of}
+
+same_bool : (b : Bool) → is_same_bool b b ≡ true
+same_bool true = refl
+same_bool false = refl
 
 pub same_queue : (q : Queue) → is_same_queue q q ≡ true
 same_queue q =
     and_from _ _
     (and_from _ _
+    (and_from _ _
+    (and_from _ _
     (and_from _ _ (and_from _ _ (is_eq q.descriptors q.descriptors refl) (is_eq q.available q.available refl))
     (is_eq q.used q.used refl)) (is_eq q.size q.size refl))
-    (is_eq q.pages q.pages refl)
+    (is_eq q.pages q.pages refl)) (same_bool q.accepted.indirect)) (same_bool q.accepted.event_index)
 
 pub of_shown : (shown : Option Queue) (q : Queue) → shown ≡ Some q → is_of_round shown q ≡ true
 of_shown shown q is = subst (λ (o : Option Queue). is_of_round o q ≡ true) (sym is) (same_queue q)
@@ -48,7 +54,9 @@ module _ {E : Type 0} (s : Service E) (times : Bool) (port pages : ℕ) (few : p
       → q.pages ≡ pages
   queue_pages None q is own = cc
   queue_pages (Some shown) q is own =
-      sym (eqb-true shown.pages q.pages (and_parts _ (shown.pages == q.pages) is).1) ∙ eqb-true shown.pages pages own
+      let p1 = and_parts _ (is_same_bool shown.accepted.event_index q.accepted.event_index) is in
+      let p0 = and_parts _ (is_same_bool shown.accepted.indirect q.accepted.indirect) p1.0 in
+      sym (eqb-true shown.pages q.pages (and_parts _ (shown.pages == q.pages) p0.0).1) ∙ eqb-true shown.pages pages own
 
   pub lane_queue : (k : Which) (r : Rounds) → are_rounds s port pages r ≡ true
       → is_queue s pages (lane_of k r).queue ≡ true

@@ -14,9 +14,9 @@ use Rattle.le_fields.proofs.Values.{all_bytes}
 use Rattle.vq_split.specs.declared.queue.Queue.{Queue}
 use Rattle.vq_split.specs.declared.queue.Why.{Why}
 use Rattle.vq_split.specs.declared.walk.Stage.{Stage}
-use Rattle.vq_split.specs.declared.walk.Stage.TheVariants.{Index, Ring, Link}
+use Rattle.vq_split.specs.declared.walk.Stage.TheVariants.{AvailEvent, Entry, EntryRest, Index, IndexAgain, Link, Ring}
 use Rattle.vq_split.specs.Chain.{queue_flaw}
-use Rattle.vq_split.specs.Walking.{op_at, walk_left, walk_wants}
+use Rattle.vq_split.specs.Walking.{look_left, op_at, walk_wants}
 use Rattle.dev_core.specs.declared.breaking.BreakStage.{BreakStage}
 use Rattle.dev_core.specs.declared.breaking.BreakStage.TheVariants as breaking
 use Rattle.dev_core.specs.declared.returning.ReturnStage.{ReturnStage}
@@ -38,13 +38,14 @@ use Rattle.queue_device.specs.Kept.{is_at_lane, is_walked}
 use Rattle.queue_device.specs.Lanes.{in_lane, lane_freed, lane_of}
 use Rattle.queue_device.specs.Left.{Hand, is_between, left_at, queued, used_chain}
 use Rattle.queue_device.specs.Resuming.{IsShortChain, Resumes}
-use Rattle.queue_device.specs.Rounds.{at_rounds, begins_at, broken_off, due_from, given_back, lane_begins, next_begins, over_begins, queue_rules, serving, time_asked, walk_begun, walked}
+use Rattle.queue_device.specs.Rounds.{at_rounds, begins_at, broken_off, due_from, given_back, lane_begins, next_begins, over_begins, queue_rules, serving, time_asked, walk_begun}
 use Rattle.queue_device.specs.Service.{Queued, Service}
 use Rattle.queue_device.specs.Sizes.{IsSmallWrite}
 use Rattle.queue_device.proofs.GoesOn.{Kept, Next, Parts, Round, Working, break_asks, freed_on, holds_of, own_waits, parts_of, return_asks}
 use Rattle.queue_device.proofs.Keeping.{chain_of, lane_is}
 use Rattle.queue_device.proofs.KeptRounds.{own_lane, short_of}
 use Rattle.queue_device.proofs.Places.{walking_is}
+use Rattle.queue_device.proofs.Steps.{on_op, walk_first}
 use Rattle.queue_device.proofs.Walks.{walk_asks}
 
 -- ---- what is wanted first
@@ -69,6 +70,7 @@ return_small returning.Pair c op is =
     (All-append IsByte (bytes_of 4 c.head) (bytes_of 4 c.len) (all_bytes 4 c.head) (all_bytes 4 c.len)) is
 return_small returning.Half c op is = same_small _ op (all_bytes 4 c.len) is
 return_small returning.Index c op is = same_small _ op (all_bytes 2 _) is
+return_small returning.Event c op is = same_small _ op tt is
 return_small returning.Interrupt c op is = same_small _ op tt is
 return_small returning.Line c op is = same_small _ op tt is
 
@@ -76,10 +78,14 @@ break_small : (stage : BreakStage) (port : ℕ) (op : Op) → asked (break_left 
 break_small breaking.Port port op is = same_small _ op tt is
 break_small breaking.Line port op is = same_small _ op tt is
 
-read_small : (stage : Stage) (q : Queue) (next : ℕ) → IsSmallWrite (op_at stage q next)
-read_small Index q next = tt
-read_small Ring q next = tt
-read_small (Link head at) q next = tt
+walk_small : (stage : Stage) (q : Queue) (next : ℕ) → IsSmallWrite (op_at stage q next)
+walk_small Index q next = tt
+walk_small AvailEvent q next = all_bytes 2 next
+walk_small IndexAgain q next = tt
+walk_small Ring q next = tt
+walk_small (Link head at) q next = tt
+walk_small (Entry head table at) q next = tt
+walk_small (EntryRest head table at front) q next = tt
 
 module _ {E G C : Type 0} (s : Service E) (changing : Changing E C) (hand : G → Hand E) (is_work : Work → ℕ → G → Bool)
     (IsFine : E → Type 0) (sized times : Bool) (calls : OutOp → Bool) (port pages : ℕ) (small : pages ≤ 2 ^ 20)
@@ -112,8 +118,9 @@ module _ {E G C : Type 0} (s : Service E) (changing : Changing E C) (hand : G �
   place_small (phase.Walk k w) r e g v =
       let at = and_parts (is_at_lane r.due) (is_walked (lane_of k r) w) v.place in
       let sure = walking_is s times port pages few k w r v.it.0 at.1 in
-      subst IsSmallWrite (sym (root_of (walk_left w) (queued r e) (walked s k w.queue) (walk_wants w) (walk_asks w sure.0)))
-      (read_small w.stage w.queue w.next)
+      subst IsSmallWrite
+      (sym (on_op s k w (walk_wants w) (look_left w.stage w.queue w.next) (queued r e) (walk_first w (walk_wants w) (walk_asks w sure.0))))
+      (walk_small w.stage w.queue w.next)
   place_small (phase.Return c len stage) r e g v =
       let is = return_asks stage (used_chain c len r) in
       subst IsSmallWrite

@@ -5,6 +5,7 @@ use Rattle.vq_split.specs.Kept.{are_inside, is_sound, is_walking}
 use Rattle.vq_split.specs.Walking.{Walking}
 use Rattle.dev_core.specs.declared.returning.ReturnStage.{ReturnStage}
 use Rattle.dev_core.specs.declared.returning.ReturnStage.TheVariants as returning
+use Rattle.dev_core.specs.Returning.{may_return}
 use Rattle.queue_device.specs.declared.lanes.Due.{Due}
 use Rattle.queue_device.specs.declared.lanes.Due.TheVariants as due
 use Rattle.queue_device.specs.declared.lanes.Lane.{Lane}
@@ -53,10 +54,15 @@ abbrev pub is_at_lane : Due → Bool
 is_at_lane (due.Lane k) = true
 is_at_lane due = false
 
+abbrev pub is_same_bool : Bool → Bool → Bool
+is_same_bool true b = b
+is_same_bool false b = not b
+
 abbrev pub is_same_queue : Queue → Queue → Bool
 is_same_queue a b =
     (a.descriptors == b.descriptors) && (a.available == b.available) && (a.used == b.used) && (a.size == b.size)
-    && (a.pages == b.pages)
+    && (a.pages == b.pages) && is_same_bool a.accepted.indirect b.accepted.indirect
+    && is_same_bool a.accepted.event_index b.accepted.event_index
 
 -- the round works on this queue
 abbrev pub is_of_round : Option Queue → Queue → Bool
@@ -88,7 +94,8 @@ is_place times phase.Question r = is_asking r.due
 is_place times (phase.Walk k w) r = is_at_lane r.due && is_walked (lane_of k r) w
 is_place times (phase.Take c) r = is_at_lane r.due && is_in_hand times c r
 is_place times (phase.Serve c) r = is_at_lane r.due && is_in_hand times c r
-is_place times (phase.Return c len stage) r = is_at_lane r.due && is_in_hand times c r && is_told stage len c.head
+is_place times (phase.Return c len stage) r =
+    is_at_lane r.due && is_in_hand times c r && is_told stage len c.head && may_return stage c.queue
 is_place times (phase.Break k stage) r = is_at_lane r.due && is_some (lane_of k r).queue
 
 -- what its kind is at

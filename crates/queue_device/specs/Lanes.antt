@@ -1,5 +1,6 @@
 -- The queues of a device, each with where the device stands in it, and the round in hand.
 use Rattle.std.specs.Prelude.{ℕ, ◌+◌, ◌/◌, ◌%◌, ◌^◌, ◌==◌, Bool, true, false, ◌||◌, if◌then◌else◌, Option, Some, None}
+use Rattle.vm_types.specs.declared.port_look.Accepted.{Accepted}
 use Rattle.vm_types.specs.declared.port_look.PortLook.{PortLook}
 use Rattle.vm_types.specs.declared.port_look.QueueShown.{QueueShown}
 use Rattle.dev_core.specs.Looks.{queue_shown, is_workable}
@@ -89,9 +90,9 @@ abbrev pub lane_reset : Bool → Lane → Lane
 lane_reset was_reset lane = if was_reset then new_lane else lane
 
 -- the round works on a queue that is workable; a kick is remembered in any case
-abbrev pub lane_looked : ℕ → ℕ → QueueShown → Lane → Lane
-lane_looked pages status shown lane = record lane {
-  queue = if is_workable status shown then Some (queue_shown pages shown) else None;
+abbrev pub lane_looked : ℕ → Accepted → ℕ → QueueShown → Lane → Lane
+lane_looked pages accepted status shown lane = record lane {
+  queue = if is_workable status shown then Some (queue_shown pages accepted shown) else None;
   is_kicked = lane.is_kicked || shown.is_kicked;
 }
 
@@ -102,7 +103,7 @@ lane_closed lane = record lane { queue = None }
 -- where the device has the queue
 abbrev pub lane_seen : Bool → ℕ → PortLook → QueueShown → Lane → Lane
 lane_seen has pages look shown lane =
-    if has then lane_looked pages look.status shown (lane_reset look.was_reset lane) else lane
+    if has then lane_looked pages look.accepted look.status shown (lane_reset look.was_reset lane) else lane
 
 -- a look begins a round over the queues up to the last one
 abbrev pub round_begun : Which → PortLook → Rounds → Rounds

@@ -6,16 +6,15 @@ use Rattle.vm_types.specs.declared.op.Op.TheVariants.{Port, Board}
 use Rattle.vm_types.specs.declared.op.PortOp.TheVariants.{Look}
 use Rattle.vm_types.specs.declared.op.BoardOp.TheVariants.{Time}
 use Rattle.vm_types.specs.declared.reply.Reply.{Reply}
-use Rattle.device_trace.specs.Doing.{Doing, Gives, Wants}
+use Rattle.device_trace.specs.Doing.{Doing}
 use Rattle.device_trace.specs.Script.{Script, Ends, Asks, perform}
 use Rattle.device_trace.specs.Traces.{Changing, Rules}
-use Rattle.le_fields.specs.Fields.{field_at}
 use Rattle.vq_split.specs.declared.queue.Queue.{Queue}
 use Rattle.vq_split.specs.declared.queue.Part.{Part}
 use Rattle.vq_split.specs.declared.queue.Why.{Why}
 use Rattle.vq_split.specs.declared.walk.Walk.{Walk}
 use Rattle.vq_split.specs.declared.walk.Walk.TheVariants as walk
-use Rattle.vq_split.specs.Chain.{queue_flaw, chain_walk, read_bytes}
+use Rattle.vq_split.specs.Chain.{indexed_by, queue_flaw, queue_look}
 use Rattle.dev_core.specs.Returns.{returned, broken}
 use Rattle.queue_device.specs.declared.lanes.Due.{Due}
 use Rattle.queue_device.specs.declared.lanes.Due.TheVariants as due
@@ -126,18 +125,19 @@ module _ {E : Type 0} (s : Service E) where
   walked k q d (walk.Broken why) = round_broken k d
   walked k q d walk.More = Ends d
 
-  -- the walk's first read shows whether there is a chain
-  abbrev pub index_shown : Which → ℕ → Reply → Queued E → Queued E
-  index_shown k next reply d = if field_at (read_bytes 2 reply) 0 2 == next then d else at_own (s.begun k) d
+  -- the look that counts shows whether there is a chain, which is so begun
+  abbrev pub index_shown : Which → ℕ → ℕ → Queued E → Queued E
+  index_shown k next index d = if index == next then d else at_own (s.begun k) d
 
-  abbrev pub walk_from : Which → ℕ → Queue → Doing Walk → Queued E → Script (Queued E)
-  walk_from k next q (Gives came) d = walked k q d came
-  walk_from k next q (Wants op on) d =
-      Asks d op (λ e reply. perform (on reply) (index_shown k next reply e) (walked k q))
+  abbrev pub index_read : Which → ℕ → Queue → Queued E → ℕ → Script (Queued E)
+  index_read k next q d index = perform (indexed_by q next index) (index_shown k next index d) (walked k q)
+
+  abbrev pub walk_from : Which → ℕ → Queue → Doing ℕ → Queued E → Script (Queued E)
+  walk_from k next q look d = perform look d (index_read k next q)
 
   abbrev pub walk_begun : Which → Queue → Option Why → Queued E → Script (Queued E)
   walk_begun k q (Some why) d = round_broken k d
-  walk_begun k q None d = walk_from k (lane k d).next q (chain_walk q (lane k d).next) d
+  walk_begun k q None d = walk_from k (lane k d).next q (queue_look q (lane k d).next) d
 
   -- a chain that waits leaves the round to the queues behind its own, until it passes
   abbrev pub timed : Which → Chain → Queued E → Option E → Script (Queued E)

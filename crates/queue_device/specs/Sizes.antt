@@ -8,7 +8,7 @@ use Rattle.vm_types.specs.Fits.{Fits}
 use Rattle.le_fields.specs.Fields.{IsByte}
 use Rattle.vq_split.specs.declared.queue.Queue.{Queue}
 use Rattle.vq_split.specs.declared.walk.Stage.{Stage}
-use Rattle.vq_split.specs.declared.walk.Stage.TheVariants.{Link}
+use Rattle.vq_split.specs.declared.walk.Stage.TheVariants.{Entry, EntryRest, Link}
 use Rattle.queue_device.specs.declared.lanes.Lane.{Lane}
 use Rattle.queue_device.specs.declared.phase.Phase.{Phase}
 use Rattle.queue_device.specs.declared.phase.Phase.TheVariants as phase
@@ -62,6 +62,8 @@ IsLength sized (Some len) = sized ≡ true → len < 2 ^ 32
 
 abbrev pub IsNarrowStage : Stage → Type 0
 IsNarrowStage (Link head at) = IsHead head
+IsNarrowStage (Entry head table at) = IsHead head
+IsNarrowStage (EntryRest head table at front) = IsHead head × All IsByte front
 IsNarrowStage stage = Unit {0}
 
 abbrev pub IsNarrowPhase : Phase → Type 0

@@ -1,16 +1,16 @@
 // Between two groups: where the first reply of the next one leads.
-ghost use Rattle.std.specs.Prelude.{◌≡◌, length, true, false, Some, None, is_some, if◌then◌else◌};
+ghost use Rattle.std.specs.Prelude.{◌≡◌, true, false, Some, None, is_some, if◌then◌else◌};
 ghost use Rattle.vm_types.specs.declared.reply.Reply.{Reply};
 ghost use Rattle.vm_types.specs.Fits.{fits};
 ghost use Rattle.device_trace.specs.Traces.{root_next, root_op};
-ghost use Rattle.vq_split.specs.Chain.{queue_flaw, read_bytes};
+ghost use Rattle.vq_split.specs.Chain.{queue_flaw};
 ghost use Rattle.queue_device.specs.declared.phase.Phase.TheVariants.{Between};
 ghost use Rattle.queue_device.specs.declared.phase.Work.TheVariants as work;
 ghost use Rattle.queue_device.specs.Chains.{Chain};
 ghost use Rattle.queue_device.specs.Kept.{RestsOn, are_kept, is_at_lane, is_state};
 ghost use Rattle.queue_device.specs.Lanes.{in_lane, lane_freed, lane_of};
 ghost use Rattle.queue_device.specs.Left.{left_at, queued};
-ghost use Rattle.queue_device.specs.Rounds.{begins, goes_on, index_shown, looked, next_begins, over_begins, serving};
+ghost use Rattle.queue_device.specs.Rounds.{begins, goes_on, looked, next_begins, over_begins, serving};
 ghost use Rattle.queue_device.specs.Rounds.{time_of, walk_begun};
 
 use crate::going::{answer_told, break_given, due_behind, due_from, serve, walk_given};
@@ -20,7 +20,7 @@ use crate::lanes::{Due, Rounds, Which, is_running};
 use crate::phase::Phase;
 use dev_core::BreakStage;
 use vm_types::Reply;
-use vq_split::{ChainWalk, Queue, read_bytes, value16};
+use vq_split::{ChainWalk, Queue};
 
 // The moment that the board tells.
 fn time_of(reply: &Reply) -> u64
@@ -119,18 +119,6 @@ fn goes_on<K: Kind>(rounds: &mut Rounds, kind: &mut K, which: Which, reply: Repl
     }
 }
 
-// A walk's first read shows whether there is a chain.
-fn show<K: Kind>(kind: &mut K, which: Which, next: u16, reply: &Reply)
-    requires { length (read_bytes 2 reply.now) ≡ 2 }
-    ensures shown { (r : Rounds) → queued r (K.own kind.new) ≡
-        index_shown K.service which next reply.now (queued r (K.own kind.old)) }
-    ensures rests { RestsOn K.is_work (K.stage kind.old) (K.stage kind.new) }
-{
-    if value16(read_bytes(2, reply).as_slice(), 0) != next {
-        kind.begun(which);
-    }
-}
-
 // The first reply to the walk of a queue's next chain, or to what is told of a queue that has a flaw.
 fn walk_begun<K: Kind>(
     rounds: &mut Rounds,
@@ -150,7 +138,6 @@ fn walk_begun<K: Kind>(
     let next = rounds.lane(which).next;
     match ChainWalk::new(queue, next) {
         Ok(walk) => {
-            show(kind, which, next, &reply);
             walk.wanting();
             walk_given(rounds, kind, which, walk, reply)
         }

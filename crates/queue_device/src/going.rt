@@ -1,19 +1,19 @@
 // Which queue is next, and what a chain comes to.
-ghost use Rattle.std.specs.Prelude.{◌≡◌, ◌<◌, ◌^◌, ℕ, Bool, true, Option, is_some};
+ghost use Rattle.std.specs.Prelude.{◌≡◌, ◌<◌, ◌^◌, ℕ, Bool, true, IfSome, Option, is_some};
 ghost use Rattle.vq_split.specs.Inside.{WalkInside};
 ghost use Rattle.vm_types.specs.Fits.{fits};
-ghost use Rattle.device_trace.specs.Doing.{Doing, led};
+ghost use Rattle.device_trace.specs.Doing.{Doing, asked, led};
 ghost use Rattle.device_trace.specs.Script.{Ends, perform};
-ghost use Rattle.vq_split.specs.Walking.{walk_left, walk_wants};
-ghost use Rattle.dev_core.specs.Returning.{break_left, return_left};
+ghost use Rattle.vq_split.specs.Walking.{is_looking, look_left, walk_wants};
+ghost use Rattle.dev_core.specs.Returning.{break_left, may_return, return_left};
 ghost use Rattle.queue_device.specs.Acting.{Acting, Works};
 ghost use Rattle.queue_device.specs.declared.phase.Work.TheVariants as work;
 ghost use Rattle.queue_device.specs.Chains.{Taken};
 ghost use Rattle.queue_device.specs.Confined.{is_chain};
-ghost use Rattle.queue_device.specs.Kept.{are_kept, is_asking, is_fit, is_fit_told, is_holding, is_state, is_walked, is_working, work_after};
-ghost use Rattle.queue_device.specs.Left.{Hand, left_at, queued, used_chain};
+ghost use Rattle.queue_device.specs.Kept.{RestsOn, are_kept, is_asking, is_fit, is_fit_told, is_holding, is_state, is_walked, is_working, work_after};
+ghost use Rattle.queue_device.specs.Left.{Hand, left_at, queued, used_chain, walk_led, walk_shown};
 ghost use Rattle.queue_device.specs.Lanes.{lane_of};
-ghost use Rattle.queue_device.specs.Rounds.{answered, broken_off, due_behind, due_from, during, given_back, is_due, second_due};
+ghost use Rattle.queue_device.specs.Rounds.{answered, broken_off, due_behind, due_from, during, given_back, index_shown, is_due, second_due};
 ghost use Rattle.queue_device.specs.Rounds.{served, serving, taken, taking, third_due, took, walked};
 ghost use Rattle.queue_device.specs.Service.{Queued};
 
@@ -23,7 +23,7 @@ use crate::lanes::{Rounds, Which};
 use crate::phase::{InHand, Phase};
 use dev_core::{BreakStage, ReturnStage, UsedChain};
 use vm_types::Reply;
-use vq_split::{ChainWalk, Walk};
+use vq_split::{ChainWalk, Stage, Walk, index_in};
 
 // Whether the round works on a queue of which a chain waits or is wanted.
 fn is_due<K: Kind>(rounds: &Rounds, kind: &K, which: Which) -> bool
@@ -257,6 +257,36 @@ pub fn walked<K: Kind>(
     }
 }
 
+// An index of the available ring shows whether there is a chain.
+fn shown<K: Kind>(kind: &mut K, which: Which, next: u16, index: u16)
+    ensures shown { (r : Rounds) → queued r (K.own kind.new) ≡
+        index_shown K.service which next index (queued r (K.own kind.old)) }
+    ensures rests { RestsOn K.is_work (K.stage kind.old) (K.stage kind.new) }
+{
+    if index != next {
+        kind.begun(which);
+    }
+}
+
+// Whether its reply is an index of the ring.
+fn is_looking(walk: &ChainWalk) -> bool
+    ensures { result ≡ is_looking walk.now.stage }
+{
+    matches!(walk.stage(), Stage::Index | Stage::IndexAgain)
+}
+
+/// The reply to a walk that looks at the ring shows whether there is a chain.
+pub fn show<K: Kind>(kind: &mut K, which: Which, walk: &ChainWalk, reply: &Reply)
+    requires { fits (walk_wants walk.now) reply.now ≡ true }
+    ensures shown { (r : Rounds) → queued r (K.own kind.new) ≡
+        walk_shown K.service which walk.now reply.now (queued r (K.own kind.old)) }
+    ensures rests { RestsOn K.is_work (K.stage kind.old) (K.stage kind.new) }
+{
+    if is_looking(walk) {
+        shown(kind, which, walk.number(), index_in(reply));
+    }
+}
+
 /// A reply came to the act of a walk.
 pub fn walk_given<K: Kind>(
     rounds: &mut Rounds,
@@ -267,13 +297,14 @@ pub fn walk_given<K: Kind>(
 ) -> Phase
     requires { fits (walk_wants walk) reply ≡ true }
     ensures left { left_at K.service result (K.hand (K.stage kind.new)) (queued rounds.new (K.own kind.new)) ≡
-        perform (led (walk_left walk) reply) (queued rounds.old (K.own kind.old)) (walked K.service which walk.queue) }
+        walk_led K.service which walk reply (look_left walk.stage walk.queue walk.next) (queued rounds.old (K.own kind.old)) }
     ensures kept { is_working K.service K.times rounds.old ≡ true → is_walked (lane_of which rounds.old) walk ≡ true →
         K.is_work work.Rest rounds.old.pages (K.stage kind.old) ≡ true →
         is_state K.service K.times K.is_work result rounds.new (K.stage kind.new) ≡ true }
 {
     few_pages(rounds);
     let queue = SoundQueue::of(&walk);
+    show(kind, which, &walk, &reply);
     let mut walk = walk;
     match walk.give(reply) {
         Walk::More => {
@@ -295,7 +326,7 @@ fn return_told<K: Kind>(
     ensures left { (t : Doing (Unit {0})) → return_left stage (used_chain chain len rounds.now) ≡ t →
         left_at K.service result (K.hand (K.stage kind.now)) (queued rounds.now (K.own kind.now)) ≡
         perform t (queued rounds.now (K.own kind.now)) (λ e done. Ends (given_back K.service chain.which e)) }
-    ensures kept { is_holding K.service K.times chain rounds.now ≡ true →
+    ensures kept { is_holding K.service K.times chain rounds.now ≡ true → may_return stage chain.queue ≡ true →
         K.is_work work.Rest rounds.now.pages (K.stage kind.now) ≡ true →
         is_state K.service K.times K.is_work result rounds.now (K.stage kind.now) ≡ true }
 {
@@ -314,6 +345,11 @@ fn return_told<K: Kind>(
             stage,
         },
         ReturnStage::Index => Phase::Return {
+            chain: told,
+            len: 0,
+            stage,
+        },
+        ReturnStage::Event => Phase::Return {
             chain: told,
             len: 0,
             stage,
@@ -340,6 +376,7 @@ pub fn return_given<K: Kind>(
     stage: ReturnStage,
     reply: &Reply,
 ) -> Phase
+    requires { IfSome (asked (return_left stage (used_chain chain len rounds.old))) (λ op. fits op reply.now ≡ true) }
     ensures left { left_at K.service result (K.hand (K.stage kind.new)) (queued rounds.new (K.own kind.new)) ≡
         perform (led (return_left stage (used_chain chain len rounds.old)) reply.now)
         (queued rounds.old (K.own kind.old)) (λ e done. Ends (given_back K.service chain.which e)) }
@@ -347,11 +384,10 @@ pub fn return_given<K: Kind>(
         K.is_work work.Rest rounds.old.pages (K.stage kind.old) ≡ true →
         is_state K.service K.times K.is_work result rounds.new (K.stage kind.new) ≡ true }
 {
-    let _ = reply;
     let mut stage = stage;
     let used = used_chain(rounds, chain, len);
     let _queue = chain.queue.fields();
-    match stage.give(&used) {
+    match stage.give(&used, reply) {
         None => return_told(rounds, kind, chain, len, stage),
         Some(()) => {
             rounds.give(chain.which);

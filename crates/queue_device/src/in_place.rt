@@ -18,7 +18,7 @@ ghost use Rattle.queue_device.specs.Left.{left_at, queued, used_chain};
 ghost use Rattle.queue_device.specs.Rounds.{given_back, queue_rules, took, walked};
 
 use crate::chain::{SoundQueue, TakenParts};
-use crate::going::{due_from, few_pages, took, used_chain, walked};
+use crate::going::{due_from, few_pages, show, took, used_chain, walked};
 use crate::kind::Kind;
 use crate::lanes::{Rounds, Which};
 use crate::phase::{InHand, Phase};
@@ -65,6 +65,7 @@ pub fn walk_step<K: Kind>(rounds: &mut Rounds, kind: &mut K, phase: &mut Phase, 
     few_pages(rounds);
     walk.wanting();
     let queue = SoundQueue::of(walk);
+    show(kind, which, walk, &reply);
     match walk.give(reply) {
         Walk::More => walk.wanting(),
         came => walk_over(rounds, kind, phase, which, queue, came),
@@ -137,6 +138,7 @@ fn forget(chain: &mut InHand, len: &mut u32, stage: ReturnStage)
         ReturnStage::Pair => {}
         ReturnStage::Half => chain.head = 0,
         ReturnStage::Index => clear(chain, len),
+        ReturnStage::Event => clear(chain, len),
         ReturnStage::Interrupt => clear(chain, len),
         ReturnStage::Line => clear(chain, len),
     }
@@ -160,21 +162,22 @@ fn return_over<K: Kind>(rounds: &mut Rounds, kind: &mut K, phase: &mut Phase, wh
 
 /// A reply came while a chain is given back.
 pub fn return_step<K: Kind>(rounds: &mut Rounds, kind: &mut K, phase: &mut Phase, reply: &Reply)
-    requires { (c : InHand) × (len : ℕ) × (stage : ReturnStage) × (phase.old ≡ phases.Return c len stage) }
+    requires returns { (c : InHand) × (len : ℕ) × (stage : ReturnStage) × (phase.old ≡ phases.Return c len stage) }
+    requires fit { fits (wants (queue_rules K.service K.changing)
+        (left_at K.service phase.old (K.hand (K.stage kind.old)) (queued rounds.old (K.own kind.old)))) reply.now ≡ true }
     ensures left { left_at K.service phase.new (K.hand (K.stage kind.new)) (queued rounds.new (K.own kind.new)) ≡
         stepped (queue_rules K.service K.changing)
         (left_at K.service phase.old (K.hand (K.stage kind.old)) (queued rounds.old (K.own kind.old))) reply.now }
     ensures kept { is_state K.service K.times K.is_work phase.old rounds.old (K.stage kind.old) ≡ true →
         is_state K.service K.times K.is_work phase.new rounds.new (K.stage kind.new) ≡ true }
 {
-    let _ = reply;
     let Phase::Return { chain, len, stage } = phase else {
         unreachable!()
     };
     let which = chain.which;
     let _queue = chain.queue.fields();
     let used = used_chain(rounds, *chain, *len);
-    match stage.give(&used) {
+    match stage.give(&used, reply) {
         None => forget(chain, len, *stage),
         Some(()) => return_over(rounds, kind, phase, which),
     }

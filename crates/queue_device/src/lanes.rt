@@ -118,17 +118,17 @@ impl Lane {
         self.waiting = Some(chain);
     }
 
-    fn look(&mut self, pages: u32, status: u32, was_reset: bool, shown: &QueueShown)
-        ensures { self.new ≡ lane_looked pages status shown.now (lane_reset was_reset self.old) }
+    fn look(&mut self, pages: u32, look: &PortLook, shown: &QueueShown)
+        ensures { self.new ≡ lane_looked pages look.now.accepted look.now.status shown.now (lane_reset look.now.was_reset self.old) }
     {
-        if was_reset {
+        if look.was_reset {
             self.waiting = None;
             self.next = 0;
             self.used = 0;
             self.is_kicked = false;
         }
-        self.queue = if is_workable(status, shown) {
-            Some(queue_shown(pages, shown))
+        self.queue = if is_workable(look.status, shown) {
+            Some(queue_shown(pages, look.accepted, shown))
         } else {
             None
         };
@@ -168,16 +168,13 @@ impl Rounds {
         ensures { self.new ≡ round_begun last look.now self.old }
     {
         if is_up_to(last, Which::First) {
-            self.first
-                .look(self.pages, look.status, look.was_reset, &look.first);
+            self.first.look(self.pages, look, &look.first);
         }
         if is_up_to(last, Which::Second) {
-            self.second
-                .look(self.pages, look.status, look.was_reset, &look.second);
+            self.second.look(self.pages, look, &look.second);
         }
         if is_up_to(last, Which::Third) {
-            self.third
-                .look(self.pages, look.status, look.was_reset, &look.third);
+            self.third.look(self.pages, look, &look.third);
         }
         self.is_busy = false;
     }

@@ -1,5 +1,6 @@
 // Which states a device may be in.
 ghost use Rattle.std.specs.Prelude.{◌≡◌};
+ghost use Rattle.dev_core.specs.Returning as returning;
 ghost use Rattle.queue_device.specs.Confined as confined;
 ghost use Rattle.queue_device.specs.Kept as kept;
 
@@ -122,6 +123,8 @@ fn is_same_queue(a: &Queue, b: &Queue) -> bool
         && a.used == b.used
         && a.size == b.size
         && a.pages == b.pages
+        && a.accepted.indirect == b.accepted.indirect
+        && a.accepted.event_index == b.accepted.event_index
 }
 
 fn is_of_round(shown: &Option<Queue>, queue: &Queue) -> bool
@@ -153,7 +156,19 @@ fn is_told(stage: ReturnStage, len: u32, head: u16) -> bool
     match stage {
         ReturnStage::Pair => true,
         ReturnStage::Half => head == 0,
-        ReturnStage::Index | ReturnStage::Interrupt | ReturnStage::Line => len == 0 && head == 0,
+        ReturnStage::Index | ReturnStage::Event | ReturnStage::Interrupt | ReturnStage::Line => {
+            len == 0 && head == 0
+        }
+    }
+}
+
+// The driver's event is read where it was accepted alone.
+fn may_return(stage: ReturnStage, queue: &Queue) -> bool
+    ensures { result ≡ returning.may_return stage queue.now }
+{
+    match stage {
+        ReturnStage::Event => queue.accepted.event_index,
+        _ => true,
     }
 }
 
@@ -180,6 +195,7 @@ fn is_place(times: bool, phase: &Phase, rounds: &Rounds) -> bool
             is_at_lane(rounds.due)
                 && is_in_hand(times, *chain, rounds)
                 && is_told(*stage, *len, chain.head)
+                && may_return(*stage, &chain.queue.fields())
         }
         Phase::Break { which, stage: _ } => {
             is_at_lane(rounds.due) && rounds.lane(*which).queue.is_some()

@@ -46,7 +46,7 @@ rest_fits : StageFits at.Rest
 unfolding stage_format
 rest_fits = record { has = refl; fits = (fits8 0 (omega arith), refl) }
 
-module _ (pages : ℕ) (few : pages ≤ 2 ^ 18) where
+module _ (pages : ℕ) (few : pages ≤ 2 ^ 20) where
   served_fits : (k : Which) (s : Stage) → is_work (work.Serve k) pages s ≡ true → IsSmallStage s → StageFits s
   unfolding stage_format
   served_fits First at.Rest is small = absurd (cc)
@@ -123,8 +123,8 @@ module _ (pages : ℕ) (few : pages ≤ 2 ^ 18) where
 
 -- ---- all of it
 
--- a balloon of a guest of at most 2^18 pages, at a port whose number is a byte
-module _ (b : QueueRounds Kept) (is : is_state b ≡ true) (few : b.rounds.pages ≤ 2 ^ 18) (port : b.rounds.port < 2 ^ 8)
+-- a balloon of a guest of at most 2^20 pages, at a port whose number is a byte
+module _ (b : QueueRounds Kept) (is : is_state b ≡ true) (few : b.rounds.pages ≤ 2 ^ 20) (port : b.rounds.port < 2 ^ 8)
     (short : AreShort true b.rounds) (narrow : IsNarrowPhase b.phase) (small : IsSmallStage b.kind.stage)
     (own : IsSizedData true b.kind.own) where
   parts : TestParts balloons.balloon true is_work b.phase b.rounds b.kind.stage

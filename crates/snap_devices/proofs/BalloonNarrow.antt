@@ -15,6 +15,7 @@ use Rattle.guest_devices.specs.Narrow.{IsNarrowKept}
 use Rattle.snap_devices.specs.Balloons.{stage as stage_format, balloon, balloon_fields, kind, kind_fields, statistics}
 use Rattle.snap_devices.specs.Devices.{device}
 use Rattle.snap_devices.specs.Rounds.{rounds}
+use Rattle.snap_devices.proofs.Narrow.{HoldsPhase}
 use Rattle.snap_devices.proofs.RoundsNarrow.{AreAllHeld, place_narrow, rounds_narrow}
 
 -- ---- what it told, and what it is at in a chain
@@ -46,13 +47,13 @@ stage_narrow (at.Tags from s) own bytes = (bytes, statistics_of s own.1.1.0)
 -- ---- all of it
 
 abbrev pub HoldsBalloon : QueueRounds Kept → Type 0
-HoldsBalloon b = HoldsStage b.kind.stage × AreAllHeld b.rounds
+HoldsBalloon b = HoldsStage b.kind.stage × AreAllHeld b.rounds × HoldsPhase b.phase
 
 balloon_narrow : (b : QueueRounds Kept) → balloon.Fits b → HoldsBalloon b → IsNarrowKept (kept.Balloon b)
 unfolding balloon balloon_fields kind kind_fields
 balloon_narrow b own bytes = (
   rounds_narrow b.rounds own.0.0 bytes.1,
-  place_narrow b.phase own.0.1.0,
+  place_narrow b.phase own.0.1.0 bytes.2,
   stage_narrow b.kind.stage own.0.1.1.0.1.1.1 bytes.0,
   λ yes. record {
     interval = of16 b.kind.own.interval own.0.1.1.0.0;

@@ -1,16 +1,19 @@
 -- A device in the fields of a file: what is kept of it fits, where each number of it has its width.
-use Rattle.std.proofs.Common.{◌≡◌, ◌≤◌, ◌<◌, ◌^◌, ℕ, Bool, true, false, if◌then◌else◌, refl, arith, List, Option, Some, None}
+use Rattle.std.proofs.Common.{◌≡◌, ◌≤◌, ◌<◌, ◌^◌, ℕ, Bool, true, false, if◌then◌else◌, refl, sym, subst, arith, List, Option, Some, None}
 use Rattle.std.specs.Prelude.{IfSome}
 use Rattle.std.proofs.lemmas.Bool.{and_parts, eqb-true}
 use Rattle.le_fields.specs.Fields.{IsByte}
 use Rattle.file_format.specs.Ends.{ended}
-use Rattle.file_format.specs.Kinds.{byte, optional}
-use Rattle.file_format.proofs.Fitting.{every, fits8, fits16, fits32, fits64, fits_flag, fits_optional, fits_times}
+use Rattle.vm_types.specs.declared.port_look.Accepted.{Accepted}
+use Rattle.file_format.specs.Kinds.{byte}
+use Rattle.file_format.proofs.Fitting.{every, fits8, fits16, fits32, fits64, fits_flag, fits_times}
 use Rattle.vq_split.specs.declared.queue.Part.{Part}
 use Rattle.vq_split.specs.declared.queue.Queue.{Queue}
+use Rattle.vq_split.specs.Walking.{Walking, walk_of}
 use Rattle.vq_split.proofs.Inside.{of_ram}
 use Rattle.dev_core.specs.declared.collect.Collect.{Collect}
 use Rattle.dev_core.specs.Looks.{no_queue}
+use Rattle.dev_core.specs.Returning.{may_return}
 use Rattle.queue_device.specs.declared.device.QueueRounds.{QueueRounds}
 use Rattle.queue_device.specs.declared.lanes.Which.TheVariants.{First}
 use Rattle.queue_device.specs.declared.phase.InHand.{InHand}
@@ -38,15 +41,16 @@ use Rattle.guest_devices.specs.Kept.{device_pages, device_port, is_kept, is_save
 use Rattle.guest_devices.specs.Narrow.{IsNarrowKept}
 use Rattle.snap_devices.specs.declared.file.FileDue.{FileDue}
 use Rattle.snap_devices.specs.declared.file.FileDue.TheVariants.{Look, Walk, Idle}
-use Rattle.snap_devices.specs.Blocks.{due as due_format, block, block_data, block_fields}
+use Rattle.snap_devices.specs.Blocks.{at_due, due as due_format, due_at, due_at-is, due_by, due_code, due_mark, due_marks, block, block_data, block_fields}
 use Rattle.snap_devices.specs.Devices.{device}
 use Rattle.snap_devices.specs.Forms.{data_filed, due_filed, hand_filed, more_filed, other_queue, phase_filed, queue_filed, served_filed, walk_filed}
 use Rattle.snap_devices.specs.Limits.{limits, more}
-use Rattle.snap_devices.specs.Queues.{queue, walk}
+use Rattle.snap_devices.specs.Marks.{marked, marked_by}
+use Rattle.snap_devices.specs.Queues.{maybe_queue, maybe_walk, queue, queue_marks, registers, registers_of, walk, walk_marks}
 use Rattle.snap_devices.specs.Serving.{service, units}
 use Rattle.snap_devices.proofs.BalloonFits.{balloon_fits}
 use Rattle.snap_devices.proofs.Forms.{stands}
-use Rattle.snap_devices.proofs.PieceFits.{begun_fits, break_fits, collect_fits, hand_fits, parts_fit, queue_fits, return_fits, shown_of, waiting_fits}
+use Rattle.snap_devices.proofs.PieceFits.{accepted_few, begun_fits, break_fits, collect_fits, hand_fits, maybe_fits, parts_fit, registers_fit, return_fits, shown_of, waiting_fits}
 use Rattle.snap_devices.proofs.LimitsFits.{bucket_by}
 use Rattle.snap_devices.proofs.NetFits.{net_fits}
 use Rattle.snap_devices.proofs.VsockFits.{vsock_fits}
@@ -84,7 +88,7 @@ service_fits stage.Flush from to is small = (fits8 5 (omega arith), refl)
 service_fits (stage.Status status used) from to is small =
     (fits8 6 (omega arith), (refl, (fits8 status small.0, fits32 used small.1)))
 
-at_fits : (pages head : ℕ) (s : BlockStage) (from : Collect) (to : List Part) → pages ≤ 2 ^ 18 → IsAt s from to
+at_fits : (pages head : ℕ) (s : BlockStage) (from : Collect) (to : List Part) → pages ≤ 2 ^ 20 → IsAt s from to
     → has_place pages s ≡ true → IsSmallAt s → head < 2 ^ 16 → phase_format.Fits (served_filed head s)
 unfolding phase_format
 at_fits pages head at.Rest from to few is placed small narrow = (fits8 0 (omega arith), refl)
@@ -93,7 +97,7 @@ at_fits pages head (at.Serve place s) from to few is placed small narrow =
     let high = (of_ram pages place 1 placed).1 in
     (fits8 3 (omega arith), (refl, (fits64 place (omega (arith, high, few)), (service_fits s from to is small, fits16 head narrow))))
 
-phase_fits : (pages : ℕ) (p : Phase) (w : Working) → pages ≤ 2 ^ 18 → is_work (work_of p) pages w ≡ true → IsNarrowPhase p
+phase_fits : (pages : ℕ) (p : Phase) (w : Working) → pages ≤ 2 ^ 20 → is_work (work_of p) pages w ≡ true → IsNarrowPhase p
     → IsSmallWork w → phase_format.Fits (phase_filed p w.stage w.from)
 unfolding phase_format
 phase_fits pages phase.Between w few works narrow small = (fits8 0 (omega arith), refl)
@@ -114,27 +118,53 @@ phase_fits pages (phase.Break k stage) w few works narrow small = (fits8 1 (omeg
 
 -- ---- its data
 
-due_fits : (o : FileDue) → due_format.Fits o
-unfolding due_format
-due_fits Look = (fits8 0 (omega arith), refl)
-due_fits Walk = (fits8 1 (omega arith), refl)
-due_fits Idle = (fits8 2 (omega arith), refl)
+due_few : (o : FileDue) → due_code o < 3
+due_few Look = omega arith
+due_few Walk = omega arith
+due_few Idle = omega arith
 
-shown_fits : (pages : ℕ) (o : Option Queue) → pages ≤ 2 ^ 18 → is_queue service_of pages o ≡ true → IfSome o IsNarrowQueue
-    → queue.Fits (queue_filed pages o)
+due_fits : (o : FileDue) (a : Accepted) → due_format.Fits (o, a)
+unfolding due_format marked
+due_fits o a =
+    let few = accepted_few a in
+    let low = due_few o in (
+      fits8 (due_mark o a) (omega (arith, few, low)),
+      subst
+          (λ (x : Option (FileDue × Accepted)). (marked_by due_code due_at due_at-is due_by (λ y. y.0) (λ y. y.1) due_marks x).Fits (o, a))
+          (sym (at_due o a)) refl,
+    )
+
+shown_fits : (pages : ℕ) (o : Option Queue) → pages ≤ 2 ^ 20 → is_queue service_of pages o ≡ true → IfSome o IsNarrowQueue
+    → registers.Fits (registers_of (queue_filed pages o))
 shown_fits pages None few of_pages narrow =
-    queue_fits (no_queue pages)
+    registers_fit (no_queue pages)
     (record { descriptors = omega arith; available = omega arith; used = omega arith; size = omega arith }) few
 shown_fits pages (Some q) few of_pages narrow =
     let same = eqb-true q.pages pages of_pages in
-    queue_fits q narrow (omega (arith, same, few))
+    registers_fit q narrow (omega (arith, same, few))
 
-other_by : (test : Bool) (q : Queue) → queue.Fits q → (optional queue).Fits (if test then None else Some q)
-other_by true q fits = fits_optional queue None tt
-other_by false q fits = fits_optional queue (Some q) fits
+none_queue : maybe_queue.Fits None
+unfolding maybe_queue
+none_queue = maybe_fits queue (λ q. q.accepted) (no_queue 0) queue_marks None tt
 
--- a block device of a guest of at most 2^18 pages, at a port whose number is a byte
-module _ (b : QueueRounds BlockKind) (is : is_state b ≡ true) (few : b.rounds.pages ≤ 2 ^ 18) (port : b.rounds.port < 2 ^ 8)
+some_queue : (q : Queue) → (queue q.accepted).Fits q → maybe_queue.Fits (Some q)
+unfolding maybe_queue
+some_queue q fits = maybe_fits queue (λ q. q.accepted) (no_queue 0) queue_marks (Some q) fits
+
+none_walk : maybe_walk.Fits None
+unfolding maybe_walk
+none_walk = maybe_fits walk (λ w. w.queue.accepted) (walk_of (no_queue 0) 0) walk_marks None tt
+
+some_walk : (w : Walking) → (walk w.queue.accepted).Fits w → maybe_walk.Fits (Some w)
+unfolding maybe_walk
+some_walk w fits = maybe_fits walk (λ w. w.queue.accepted) (walk_of (no_queue 0) 0) walk_marks (Some w) fits
+
+other_by : (test : Bool) (q : Queue) → (queue q.accepted).Fits q → maybe_queue.Fits (if test then None else Some q)
+other_by true q fits = none_queue
+other_by false q fits = some_queue q fits
+
+-- a block device of a guest of at most 2^20 pages, at a port whose number is a byte
+module _ (b : QueueRounds BlockKind) (is : is_state b ≡ true) (few : b.rounds.pages ≤ 2 ^ 20) (port : b.rounds.port < 2 ^ 8)
     (short : AreShort true b.rounds) (narrow : IsNarrowPhase b.phase) (small : IsSmallWork b.kind.work)
     (own : IsSizedData true b.kind.facts) where
   facts : TestParts service_of true is_work b.phase b.rounds b.kind.work
@@ -159,36 +189,37 @@ module _ (b : QueueRounds BlockKind) (is : is_state b ≡ true) (few : b.rounds.
           fits8 b.rounds.port port,
           (
             fits_flag b.kind.facts.is_read_only,
-            (fits_flag b.rounds.first.is_kicked, (fits_flag b.rounds.is_busy, due_fits (due_filed b.rounds.due))),
+            (fits_flag b.rounds.first.is_kicked, (fits_flag b.rounds.is_busy, due_fits (due_filed b.rounds.due) (queue_filed b.rounds.pages b.rounds.first.queue).accepted)),
           ),
         ),
       )
 
-  walk_by : (p : Phase) → is_place true p b.rounds ≡ true → IsNarrowPhase p → (optional walk).Fits (walk_filed p)
-  walk_by phase.Between place narrow = fits_optional walk None tt
-  walk_by phase.Question place narrow = fits_optional walk None tt
-  walk_by (phase.Take c) place narrow = fits_optional walk None tt
-  walk_by (phase.Serve c) place narrow = fits_optional walk None tt
-  walk_by (phase.Return c len stage) place narrow = fits_optional walk None tt
-  walk_by (phase.Break k stage) place narrow = fits_optional walk None tt
+  walk_by : (p : Phase) → is_place true p b.rounds ≡ true → IsNarrowPhase p → maybe_walk.Fits (walk_filed p)
+  walk_by phase.Between place narrow = none_walk
+  walk_by phase.Question place narrow = none_walk
+  walk_by (phase.Take c) place narrow = none_walk
+  walk_by (phase.Serve c) place narrow = none_walk
+  walk_by (phase.Return c len stage) place narrow = none_walk
+  walk_by (phase.Break k stage) place narrow = none_walk
   walk_by (phase.Walk k w) place narrow =
       let at = and_parts (is_at_lane b.rounds.due) (is_walked (lane_of k b.rounds) w) place in
-      fits_optional walk (Some w) (begun_fits service_of true b.rounds facts.are few short k w at.1 narrow)
+      some_walk w (begun_fits service_of true b.rounds facts.are few short k w at.1 narrow)
 
-  other_fits : (c : InHand) (q : Queue) → is_in_hand true c b.rounds ≡ true → (optional queue).Fits (other_queue q c.queue)
+  other_fits : (c : InHand) (q : Queue) → is_in_hand true c b.rounds ≡ true → maybe_queue.Fits (other_queue q c.queue)
   other_fits c q is =
       other_by (is_same_queue q c.queue) c.queue (hand_fits service_of true b.rounds facts.are few short c is)
 
-  hand_by : (p : Phase) (q : Queue) → is_place true p b.rounds ≡ true → (optional queue).Fits (hand_filed p q)
-  hand_by phase.Between q place = fits_optional queue None tt
-  hand_by phase.Question q place = fits_optional queue None tt
-  hand_by (phase.Walk k w) q place = fits_optional queue None tt
+  hand_by : (p : Phase) (q : Queue) → is_place true p b.rounds ≡ true → maybe_queue.Fits (hand_filed p q)
+  hand_by phase.Between q place = none_queue
+  hand_by phase.Question q place = none_queue
+  hand_by (phase.Walk k w) q place = none_queue
   hand_by (phase.Take c) q place = other_fits c q (and_parts (is_at_lane b.rounds.due) (is_in_hand true c b.rounds) place).1
   hand_by (phase.Serve c) q place = other_fits c q (and_parts (is_at_lane b.rounds.due) (is_in_hand true c b.rounds) place).1
   hand_by (phase.Return c len stage) q place =
-      let told = and_parts _ (is_told stage len c.head) place in
+      let may = and_parts _ (may_return stage c.queue) place in
+      let told = and_parts _ (is_told stage len c.head) may.0 in
       other_fits c q (and_parts (is_at_lane b.rounds.due) (is_in_hand true c b.rounds) told.0).1
-  hand_by (phase.Break k stage) q place = fits_optional queue None tt
+  hand_by (phase.Break k stage) q place = none_queue
 
   -- its limits, a chain that waits, and the queue of the chain in hand
   more_fits : more.Fits (more_filed b)
@@ -227,7 +258,7 @@ module _ (b : QueueRounds BlockKind) (is : is_state b ≡ true) (few : b.rounds.
       )
 
 -- a device that the code may keep and a file may have, of such a guest
-pub device_fits : (d : Device) → is_kept d ≡ true → is_saved d ≡ true → IsNarrowKept d → device_pages d ≤ 2 ^ 18
+pub device_fits : (d : Device) → is_kept d ≡ true → is_saved d ≡ true → IsNarrowKept d → device_pages d ≤ 2 ^ 20
     → device_port d < 2 ^ 8 → device.Fits d
 unfolding device
 device_fits (kept.Block b) is saved narrow few port =

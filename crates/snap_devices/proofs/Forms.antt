@@ -7,6 +7,7 @@ use Rattle.vq_split.specs.Kept.{is_sound}
 use Rattle.vq_split.proofs.Kept.{is_eq}
 use Rattle.dev_core.specs.declared.collect.Collect.{Collect}
 use Rattle.dev_core.specs.Pieces.{total}
+use Rattle.dev_core.specs.Returning.{may_return}
 use Rattle.queue_device.specs.declared.device.QueueRounds.{QueueRounds}
 use Rattle.queue_device.specs.declared.lanes.Due.{Due}
 use Rattle.queue_device.specs.declared.lanes.Due.TheVariants as due
@@ -19,7 +20,7 @@ use Rattle.queue_device.specs.declared.phase.Phase.{Phase}
 use Rattle.queue_device.specs.declared.phase.Phase.TheVariants as phase
 use Rattle.queue_device.specs.Confined.{are_lanes, is_lane, is_queue}
 use Rattle.queue_device.specs.Kept.{are_kept, are_own_lanes, is_at_lane, is_in_hand, is_new, is_next, is_of_round, is_over, is_own_lane}
-use Rattle.queue_device.specs.Kept.{is_place, is_same_queue, is_taken_of, is_told, work_of}
+use Rattle.queue_device.specs.Kept.{is_place, is_same_bool, is_same_queue, is_taken_of, is_told, work_of}
 use Rattle.queue_device.specs.Lanes.{lane_of, new_lane}
 use Rattle.queue_device.proofs.Places.{round_some}
 use Rattle.block_device.specs.declared.kind.BlockKind.{BlockKind}
@@ -65,9 +66,17 @@ pages_are : (o : Option Queue) (pages : ℕ) → is_queue block pages o ≡ true
 pages_are None pages is = refl
 pages_are (Some q) pages is = sym (eqb-true q.pages pages is)
 
+bool_is : (a b : Bool) → is_same_bool a b ≡ true → a ≡ b
+bool_is true true is = refl
+bool_is true false is = absurd (cc)
+bool_is false false is = refl
+bool_is false true is = absurd (cc)
+
 same_is : (a b : Queue) → is_same_queue a b ≡ true → b ≡ a
 same_is a b is =
-    let d = and_parts _ (a.pages == b.pages) is in
+    let h = and_parts _ (is_same_bool a.accepted.event_index b.accepted.event_index) is in
+    let g = and_parts _ (is_same_bool a.accepted.indirect b.accepted.indirect) h.0 in
+    let d = and_parts _ (a.pages == b.pages) g.0 in
     let c = and_parts _ (a.size == b.size) d.0 in
     let e = and_parts _ (a.used == b.used) c.0 in
     let f = and_parts (a.descriptors == b.descriptors) (a.available == b.available) e.0 in
@@ -77,6 +86,10 @@ same_is a b is =
       used = eqb-true a.used b.used e.1 i;
       size = eqb-true a.size b.size c.1 i;
       pages = eqb-true a.pages b.pages d.1 i;
+      accepted = record {
+        indirect = bool_is a.accepted.indirect b.accepted.indirect g.1 i;
+        event_index = bool_is a.accepted.event_index b.accepted.event_index h.1 i;
+      };
     })
 
 of_round : (o : Option Queue) (q : Queue) (pages : ℕ) → is_of_round o q ≡ true → q ≡ queue_filed pages o
@@ -188,7 +201,8 @@ phase_back (phase.Serve c) at.Header from r one place of = absurd (cc)
 phase_back (phase.Serve c) (at.Serve status s) from r one place of =
     ap phase.Serve (hand_is c r one (and_parts (is_at_lane r.due) _ place).1)
 phase_back (phase.Return c len stage) s from r one place of =
-    let b = and_parts _ (is_told stage len c.head) place in
+    let may = and_parts _ (may_return stage c.queue) place in
+    let b = and_parts _ (is_told stage len c.head) may.0 in
     ap (λ (it : InHand). phase.Return it len stage) (hand_is c r one (and_parts (is_at_lane r.due) _ b.0).1)
 phase_back (phase.Break k stage) s from r one place of =
     ap (λ (it : Which). phase.Break it stage) (sym (first_is k r one (and_parts (is_at_lane r.due) _ place).1))

@@ -6,13 +6,22 @@ use Rattle.std.proofs.lemmas.List.{take_at}
 use Rattle.std.proofs.lemmas.List.Elements.{All-cons, All-nil}
 use Rattle.le_fields.specs.Fields.{IsByte}
 use Rattle.file_format.specs.Ends.{ended}
-use Rattle.file_format.specs.Format.{IsBytes}
+use Rattle.file_format.specs.Format.{Format, IsBytes}
 use Rattle.file_format.specs.Kinds.{byte, byte_list, flag, number16, number32, number64, optional, ◌&◌}
 use Rattle.file_format.specs.Laws.{IsBytes-rest, IsBytes-take}
+use Rattle.vm_types.specs.declared.port_look.Accepted.{Accepted}
+use Rattle.vq_split.specs.declared.queue.Queue.{Queue}
+use Rattle.vq_split.specs.declared.walk.Stage as walk_stages
+use Rattle.vq_split.specs.declared.walk.Stage.TheVariants as walk_at
+use Rattle.vq_split.specs.Walking.{Walking, walk_of}
 use Rattle.dev_core.specs.declared.collect.Collect.{Collect}
+use Rattle.dev_core.specs.Looks.{no_queue}
 use Rattle.queue_device.specs.declared.device.QueueRounds.{QueueRounds}
 use Rattle.queue_device.specs.declared.lanes.Lane.{Lane}
 use Rattle.queue_device.specs.declared.lanes.Rounds.{Rounds}
+use Rattle.queue_device.specs.declared.lanes.Which.{Which}
+use Rattle.queue_device.specs.declared.phase.Phase as at_phase
+use Rattle.queue_device.specs.declared.phase.Phase.TheVariants as phase_at
 use Rattle.queue_device.specs.Chains.{Chain}
 use Rattle.block_device.specs.declared.kind.BlockKind.{BlockKind}
 use Rattle.net_device.specs.declared.kind.Stage as net
@@ -32,21 +41,24 @@ use Rattle.guest_devices.specs.declared.device.Device.{Device}
 use Rattle.guest_devices.specs.declared.device.Device.TheVariants as kept
 use Rattle.snap_devices.specs.declared.file.FileBlock.{FileBlock}
 use Rattle.snap_devices.specs.declared.file.FileMore.{FileMore}
+use Rattle.snap_devices.specs.declared.file.FilePhase.{FilePhase}
+use Rattle.snap_devices.specs.declared.file.FilePhase.TheVariants.{Between, Break, Header, Serve, Return}
 use Rattle.snap_devices.specs.Balloons.{balloon, balloon_fields, kind, kind_fields, stage as stage_format, statistics}
 use Rattle.snap_devices.specs.Blocks.{block, block_data, block_fields}
 use Rattle.snap_devices.specs.Devices.{device}
-use Rattle.snap_devices.specs.Forms.{block_filed, more_filed}
-use Rattle.snap_devices.specs.Limits.{chain, chain_fields, end_of_device, is_no_more, limits, more}
+use Rattle.snap_devices.specs.Forms.{block_filed, hand_kept, more_filed, phase_kept}
+use Rattle.snap_devices.specs.Limits.{chain, chain_fields, chain_marks, end_of_device, is_no_more, limits, maybe_chain, more, no_chain}
+use Rattle.snap_devices.specs.Marks.{accepted_code, at_code, at_queue, marked, marked_by, maybe, maybe_by, of_queue, queue_code, which_at, which_at-is, which_code}
 use Rattle.snap_devices.specs.Phases.{phase}
-use Rattle.snap_devices.specs.Places.{place}
-use Rattle.snap_devices.specs.Queues.{collect, held, parts, queue, walk}
+use Rattle.snap_devices.specs.Places.{place, walked, walked_by, walked_marks}
+use Rattle.snap_devices.specs.Queues.{collect, held, maybe_queue, maybe_walk, parts, piece, queue, table, walk, walk_fields, walk_marks, walk_stage}
 use Rattle.snap_devices.specs.Rounds.{lane, next_due, rounds}
 use Rattle.snap_devices.proofs.BalloonNarrow.{HoldsBalloon, HoldsStage}
 use Rattle.snap_devices.proofs.DeviceNarrow.{HoldsBytes}
 use Rattle.snap_devices.proofs.RoundsNarrow.{AreAllHeld}
 use Rattle.snap_devices.proofs.NetNarrow.{HoldsNet, HoldsPiece}
 use Rattle.snap_devices.proofs.VsockNarrow.{HoldsAct, HoldsPacket, HoldsVsock}
-use Rattle.snap_devices.proofs.Narrow.{AreHeld, HoldsBlock}
+use Rattle.snap_devices.proofs.Narrow.{AreHeld, HoldsBlock, HoldsFront, HoldsPhase}
 
 pub front : (a b : List ℕ) → IsBytes (a ++ b) → IsBytes a
 front a b is = subst IsBytes (take_at a b (length a) refl) (IsBytes-take (length a) (a ++ b) is)
@@ -58,6 +70,24 @@ pub all_of : (xs : List ℕ) → IsBytes xs → All IsByte xs
 all_of [] is = All-nil IsByte
 all_of (x ∷ xs) is = All-cons IsByte x xs (is 0) (all_of xs (λ i. is (suc i)))
 
+-- ---- what stands behind what says which features were accepted
+
+module _ {X : Type 0} (of : Accepted → Format X) (marks : X → Accepted) (other : X)
+    (is : (a : Accepted) (x : X) → (of a).Fits x → a ≡ marks x) where
+  maybe_bytes : (x : X) → IsBytes ((maybe of marks other is).bytes (Some x)) → IsBytes ((of (marks x)).bytes x)
+  unfolding maybe
+  maybe_bytes x own =
+      subst (λ (o : Option Accepted). IsBytes ((maybe_by of marks other is o).bytes (Some x))) (at_code (marks x))
+      (behind (byte.bytes (suc (accepted_code (marks x)))) _ own)
+
+module _ {X : Type 0} (of : Which → Accepted → Format X) (key : X → Which) (marks : X → Accepted)
+    (is : (k : Which) (a : Accepted) (x : X) → (of k a).Fits x → (k ≡ key x) × (a ≡ marks x)) where
+  numbered_bytes : (x : X) → IsBytes ((of_queue of key marks is).bytes x) → IsBytes ((of (key x) (marks x)).bytes x)
+  unfolding marked
+  numbered_bytes x own =
+      subst (λ (o : Option (Which × Accepted)). IsBytes ((marked_by which_code which_at which_at-is of key marks is o).bytes x))
+      (at_queue (key x) (marks x)) (behind (byte.bytes (queue_code (key x) (marks x))) _ own)
+
 -- ---- bytes that are held, and a chain that waits
 
 bytes_held : (bytes : List ℕ) → IsBytes (held.bytes bytes) → All IsByte bytes
@@ -68,18 +98,58 @@ collect_held : (c : Collect) → IsBytes (collect.bytes c) → All IsByte c.held
 unfolding collect
 collect_held c is = bytes_held c.held (behind (parts.bytes c.from) (held.bytes c.held) is)
 
-chain_held : (c : Chain) → IsBytes (chain.bytes c) → All IsByte c.got.bytes
+chain_held : (a : Accepted) (c : Chain) → IsBytes ((chain a).bytes c) → All IsByte c.got.bytes
 unfolding chain chain_fields
-chain_held c is =
-    let a = behind (queue.bytes c.queue) _ is in
-    let b = behind (number16.bytes c.head) _ a in
-    let d = behind (parts.bytes c.parts) _ b in
-    bytes_held c.got.bytes (behind (parts.bytes c.got.parts) _ d)
+chain_held a c is =
+    let b = behind ((queue a).bytes c.queue) _ is in
+    let d = behind (number16.bytes c.head) _ b in
+    let e = behind (parts.bytes c.parts) _ d in
+    bytes_held c.got.bytes (behind (parts.bytes c.got.parts) _ e)
 
-waiting_held : (o : Option Chain) → IsBytes ((optional chain).bytes o) → AreHeld o
-unfolding optional
+waiting_held : (o : Option Chain) → IsBytes (maybe_chain.bytes o) → AreHeld o
+unfolding maybe_chain
 waiting_held None is = tt
-waiting_held (Some c) is = chain_held c (behind (1 ∷ []) (chain.bytes c) is)
+waiting_held (Some c) is =
+    chain_held c.queue.accepted c (maybe_bytes chain (λ c. c.queue.accepted) no_chain chain_marks c is)
+
+piece_held : (bytes : List ℕ) → IsBytes (piece.bytes bytes) → All IsByte bytes
+unfolding piece byte_list
+piece_held bytes is = all_of bytes (behind (to_le_bytes w32 (length bytes)) bytes is)
+
+-- ---- what was read of an entry
+
+read_held : (s : walk_stages.Stage) → IsBytes (walk_stage.bytes s) → HoldsFront s
+unfolding walk_stage
+read_held walk_at.Index is = tt
+read_held walk_at.Ring is = tt
+read_held (walk_at.Link head at) is = tt
+read_held walk_at.AvailEvent is = tt
+read_held walk_at.IndexAgain is = tt
+read_held (walk_at.Entry head t at) is = tt
+read_held (walk_at.EntryRest head t at read) is =
+    let a = behind (byte.bytes 6) _ is in
+    let b = behind (number16.bytes head) _ a in
+    let c = behind (table.bytes t) _ b in
+    piece_held read (behind (number16.bytes at) _ c)
+
+walk_held : (a : Accepted) (w : Walking) → IsBytes ((walk a).bytes w) → HoldsFront w.stage
+unfolding walk walk_fields
+walk_held a w is =
+    let b = behind ((queue a).bytes w.queue) _ is in
+    let c = behind (number16.bytes w.next) _ b in
+    read_held w.stage (front (walk_stage.bytes w.stage) _ c)
+
+place_held : (p : at_phase.Phase) → IsBytes (place.bytes p) → HoldsPhase p
+unfolding place walked walked_by
+place_held phase_at.Between is = tt
+place_held phase_at.Question is = tt
+place_held (phase_at.Walk k w) is =
+    let a = behind (byte.bytes 2) _ is in
+    walk_held w.queue.accepted w (numbered_bytes walked_by (λ v. v.0) (λ v. v.1.queue.accepted) walked_marks (k, w) a)
+place_held (phase_at.Take c) is = tt
+place_held (phase_at.Serve c) is = tt
+place_held (phase_at.Return c len stage) is = tt
+place_held (phase_at.Break k stage) is = tt
 
 -- ---- a block device
 
@@ -88,14 +158,31 @@ unfolding block_fields
 form_held f is =
     let a = behind (block_data.bytes f.facts) _ is in
     let b = behind (phase.bytes f.phase) _ a in
-    let c = behind ((optional walk).bytes f.walk) _ b in
+    let c = behind (maybe_walk.bytes f.walk) _ b in
     collect_held f.from (front (collect.bytes f.from) (parts.bytes f.to) c)
+
+phase_held : (o : Option Walking) (p : FilePhase) (q : Queue) → IsBytes (maybe_walk.bytes o) → HoldsPhase (phase_kept o p q)
+unfolding maybe_walk
+phase_held (Some w) p q is =
+    walk_held w.queue.accepted w (maybe_bytes walk (λ w. w.queue.accepted) (walk_of (no_queue 0) 0) walk_marks w is)
+phase_held None Between q is = tt
+phase_held None (Break s) q is = tt
+phase_held None (Header len head) q is = tt
+phase_held None (Serve place s head) q is = tt
+phase_held None (Return len head s) q is = tt
+
+begun_held : (f : FileBlock) (q : Queue) → IsBytes (block_fields.bytes f) → HoldsPhase (phase_kept f.walk f.phase q)
+unfolding block_fields
+begun_held f q is =
+    let a = behind (block_data.bytes f.facts) _ is in
+    let b = behind (phase.bytes f.phase) _ a in
+    phase_held f.walk f.phase q (front (maybe_walk.bytes f.walk) _ b)
 
 more_held : (m : FileMore) → IsBytes (more.bytes m) → AreHeld m.waiting
 unfolding more
 more_held m is =
     let a = behind (limits.bytes m.limits) _ is in
-    waiting_held m.waiting (front ((optional chain).bytes m.waiting) ((optional queue).bytes m.in_hand) a)
+    waiting_held m.waiting (front (maybe_chain.bytes m.waiting) (maybe_queue.bytes m.in_hand) a)
 
 end_by : (test : Bool) (m : FileMore) → is_no_more m ≡ test → IsBytes (if test then [] else more.bytes m) → AreHeld m.waiting
 end_by true m none is =
@@ -107,7 +194,11 @@ unfolding block ended
 block_held b is =
     let f : FileBlock = block_filed b in
     let m : FileMore = more_filed b in
-    (form_held f (front (block_fields.bytes f) _ is), end_by (is_no_more m) m refl (behind (block_fields.bytes f) _ is))
+    let own = front (block_fields.bytes f) _ is in (
+      form_held f own,
+      end_by (is_no_more m) m refl (behind (block_fields.bytes f) _ is),
+      begun_held f (hand_kept m.in_hand f.facts.queue) own,
+    )
 
 -- ---- a balloon
 
@@ -115,7 +206,7 @@ lane_held : (l : Lane) → IsBytes (lane.bytes l) → AreHeld l.waiting
 unfolding lane
 lane_held l is =
     let a = behind ((number16 & number16 & flag).bytes (l.next, (l.used, l.is_kicked))) _ is in
-    waiting_held l.waiting (behind ((optional queue).bytes l.queue) _ a)
+    waiting_held l.waiting (behind (maybe_queue.bytes l.queue) _ a)
 
 rounds_held : (r : Rounds) → IsBytes (rounds.bytes r) → AreAllHeld r
 unfolding rounds
@@ -149,17 +240,13 @@ balloon_held b is =
     let c = behind (place.bytes b.phase) _ a in
     let d = behind (number16.bytes b.kind.own.interval) _ c in
     let e = behind (number64.bytes b.kind.own.last) _ d in
-    (stage_held b.kind.stage (behind (statistics.bytes b.kind.own.statistics) _ e), rounds_held b.rounds (front (rounds.bytes b.rounds) _ is))
+    (stage_held b.kind.stage (behind (statistics.bytes b.kind.own.statistics) _ e), rounds_held b.rounds (front (rounds.bytes b.rounds) _ is), place_held b.phase (front (place.bytes b.phase) _ a))
 
 -- ---- a network device
 
 text_held : (bytes : List ℕ) → IsBytes (nets.text.bytes bytes) → All IsByte bytes
 unfolding nets.text byte_list
 text_held bytes is = all_of bytes (behind (to_le_bytes w32 (length bytes)) bytes is)
-
-piece_held : (bytes : List ℕ) → IsBytes (nets.piece.bytes bytes) → All IsByte bytes
-unfolding nets.piece byte_list
-piece_held bytes is = all_of bytes (behind (to_le_bytes w32 (length bytes)) bytes is)
 
 sent_held : (s : net.Stage) → IsBytes (nets.stage.bytes s) → HoldsPiece s
 unfolding nets.stage
@@ -169,7 +256,7 @@ sent_held (net_at.Receive from to) is = tt
 sent_held (net_at.Read skip from) is = tt
 sent_held (net_at.Send sent skip from) is =
     let a = behind (byte.bytes 4) _ is in
-    piece_held sent (front (nets.piece.bytes sent) _ a)
+    piece_held sent (front (piece.bytes sent) _ a)
 sent_held net_at.End is = tt
 
 net_held : (n : QueueRounds net_work.Kept) → IsBytes (nets.net.bytes n) → HoldsNet n
@@ -184,6 +271,7 @@ net_held n is =
       sent_held n.kind.doing.stage (front (nets.stage.bytes n.kind.doing.stage) _ e),
       text_held n.kind.doing.bytes (behind (nets.stage.bytes n.kind.doing.stage) _ e),
       rounds_held n.rounds (front (rounds.bytes n.rounds) _ is),
+      place_held n.phase (front (place.bytes n.phase) _ a),
     )
 
 -- ---- a vsock device
@@ -222,7 +310,7 @@ act_held (vsock_at.Accept host line) is =
 act_held (vsock_at.Send host sent from) is =
     let a = behind (byte.bytes 7) _ is in
     let b = behind (number32.bytes host) _ a in
-    piece_held sent (front (nets.piece.bytes sent) _ b)
+    piece_held sent (front (piece.bytes sent) _ b)
 act_held (vsock_at.Read host from) is = tt
 
 vsock_held : (v : QueueRounds VsockKind) → IsBytes (vsocks.vsock.bytes v) → HoldsVsock v
@@ -237,6 +325,7 @@ vsock_held v is =
       vsock_piece_held v.kind.own.in_hand (front (vsocks.in_hand.bytes v.kind.own.in_hand) _ e),
       act_held v.kind.stage (behind (vsocks.vsock_data.bytes v.kind.own) _ b),
       rounds_held v.rounds (front (rounds.bytes v.rounds) _ is),
+      place_held v.phase (front (place.bytes v.phase) _ a),
     )
 
 pub device_held : (d : Device) → IsBytes (device.bytes d) → HoldsBytes d

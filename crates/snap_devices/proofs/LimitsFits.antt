@@ -8,7 +8,7 @@ use Rattle.file_format.proofs.Fitting.{fits64, fits_optional}
 use Rattle.token_bucket.specs.Kept.{Kept}
 use Rattle.rate_gate.specs.Small.{IsSmallBucket}
 use Rattle.rate_gate.proofs.SmallLimits.{kept_parts}
-use Rattle.snap_devices.specs.Limits.{bucket, bucket_fields, limits, owed}
+use Rattle.snap_devices.specs.Limits.{bucket, bucket_fields, owed}
 
 owed_fits : (n : ℕ) → n < 2 ^ 128 → owed.Fits n
 unfolding owed

@@ -7,15 +7,19 @@ use Rattle.le_fields.specs.Fields.{IsByte}
 use Rattle.file_format.specs.Ends.{ended}
 use Rattle.file_format.specs.Kinds.{byte, optional}
 use Rattle.file_format.proofs.Fitting.{every, of16, of32, of64, of8, of_optional, of_times}
+use Rattle.vm_types.specs.declared.port_look.Accepted.{Accepted}
 use Rattle.vq_split.specs.declared.queue.Part.{Part}
 use Rattle.vq_split.specs.declared.queue.Queue.{Queue}
 use Rattle.vq_split.specs.declared.walk.Stage.{Stage}
-use Rattle.vq_split.specs.declared.walk.Stage.TheVariants.{Index, Ring, Link}
-use Rattle.vq_split.specs.Walking.{Walking}
+use Rattle.vq_split.specs.declared.walk.Stage.TheVariants.{AvailEvent, Entry, EntryRest, Index, IndexAgain, Link, Ring}
+use Rattle.vq_split.specs.Walking.{Walking, walk_of}
 use Rattle.dev_core.specs.declared.collect.Collect.{Collect}
+use Rattle.dev_core.specs.Looks.{no_queue}
 use Rattle.token_bucket.specs.Kept.{Kept}
 use Rattle.rate_gate.specs.Gate.{Buckets}
 use Rattle.queue_device.specs.declared.device.QueueRounds.{QueueRounds}
+use Rattle.queue_device.specs.declared.phase.Phase.{Phase}
+use Rattle.queue_device.specs.declared.phase.Phase.TheVariants as at
 use Rattle.queue_device.specs.Chains.{Chain}
 use Rattle.queue_device.specs.Lanes.{new_lane}
 use Rattle.queue_device.specs.Resuming.{AreShort, IsShortChain}
@@ -37,25 +41,36 @@ use Rattle.snap_devices.specs.declared.file.FilePhase.TheVariants.{Between, Brea
 use Rattle.snap_devices.specs.Blocks.{block, block_data, block_fields}
 use Rattle.snap_devices.specs.Devices.{device}
 use Rattle.snap_devices.specs.Forms.{block_filed, hand_kept, kept_of, more_filed, phase_kept, queue_kept, rounds_kept, stage_kept}
-use Rattle.snap_devices.specs.Limits.{bucket, bucket_fields, chain, chain_fields, end_of_device, is_no_more, limits, more}
+use Rattle.snap_devices.specs.Limits.{bucket, bucket_fields, chain, chain_fields, chain_marks, end_of_device, is_no_more, limits, maybe_chain, more, no_chain}
 use Rattle.snap_devices.specs.Phases.{phase as phase_format}
-use Rattle.snap_devices.specs.Queues.{collect, held, parts, queue, walk, walk_fields, walk_stage}
+use Rattle.snap_devices.specs.Queues.{collect, held, maybe_queue, maybe_walk, parts, queue, queue_marks, registers, registers_of, walk, walk_fields, walk_marks, walk_stage}
 use Rattle.snap_devices.specs.Serving.{service}
+use Rattle.snap_devices.proofs.PieceFits.{of_maybe}
 
 -- ---- its lane
 
-pub of_queue : (q : Queue) → queue.Fits q → IsNarrowQueue q
-unfolding queue
-of_queue q own = record {
+of_registers : (q : Queue) → registers.Fits (registers_of q) → IsNarrowQueue q
+unfolding registers
+of_registers q own = record {
   descriptors = of64 q.descriptors own.0;
   available = of64 q.available own.1.0;
   used = of64 q.used own.1.1.0;
   size = of16 q.size own.1.1.1.0;
 }
 
-of_shown : (o : FileDue) (q : Queue) → queue.Fits q → IfSome (queue_kept o q) IsNarrowQueue
+of_queue : (a : Accepted) (q : Queue) → (queue a).Fits q → IsNarrowQueue q
+unfolding queue
+of_queue a q own = of_registers q own.1
+
+-- a queue, if there is one
+pub of_some : (o : Option Queue) → maybe_queue.Fits o → IfSome o IsNarrowQueue
+unfolding maybe_queue
+of_some None own = tt
+of_some (Some q) own = of_queue q.accepted q (of_maybe queue (λ q. q.accepted) (no_queue 0) queue_marks q own)
+
+of_shown : (o : FileDue) (q : Queue) → registers.Fits (registers_of q) → IfSome (queue_kept o q) IsNarrowQueue
 of_shown Look q own = tt
-of_shown Walk q own = of_queue q own
+of_shown Walk q own = of_registers q own
 of_shown Idle q own = tt
 
 new_narrow : IsNarrowLane new_lane
@@ -73,18 +88,20 @@ held_of : (bytes : List ℕ) → held.Fits bytes → length bytes ≤ 128
 unfolding held
 held_of bytes own = leb-true (length bytes) 128 own.1
 
-chain_of : (c : Chain) → chain.Fits c → All IsByte c.got.bytes → IsShortChain true (Some c)
+chain_of : (a : Accepted) (c : Chain) → (chain a).Fits c → All IsByte c.got.bytes → IsShortChain true (Some c)
 unfolding chain chain_fields
-chain_of c own bytes = (
+chain_of a c own bytes = (
   few_of c.parts own.0.1.1.0,
   few_of c.got.parts own.0.1.1.1.0,
   held_of c.got.bytes own.0.1.1.1.1,
   λ yes. (of16 c.head own.0.1.0, bytes),
 )
 
-pub of_waiting : (o : Option Chain) → (optional chain).Fits o → AreHeld o → IsShortChain true o
+pub of_waiting : (o : Option Chain) → maybe_chain.Fits o → AreHeld o → IsShortChain true o
+unfolding maybe_chain
 of_waiting None own bytes = tt
-of_waiting (Some c) own bytes = chain_of c (of_optional chain c own) bytes
+of_waiting (Some c) own bytes =
+    chain_of c.queue.accepted c (of_maybe chain (λ c. c.queue.accepted) no_chain chain_marks c own) bytes
 
 first_of : (d : FileData) (waiting : Option Chain) → block_data.Fits d → IsNarrowLane (rounds_kept d waiting).first
 unfolding block_data
@@ -100,24 +117,40 @@ lanes_of d waiting own short =
 
 -- ---- its phase
 
-of_stage : (s : Stage) → walk_stage.Fits s → IsNarrowStage s
+-- the bytes of an entry that were read
+abbrev pub HoldsFront : Stage → Type 0
+HoldsFront (EntryRest head table at front) = All IsByte front
+HoldsFront s = Unit {0}
+
+of_stage : (s : Stage) → walk_stage.Fits s → HoldsFront s → IsNarrowStage s
 unfolding walk_stage
-of_stage Index own = tt
-of_stage Ring own = tt
-of_stage (Link head at) own = of16 head own.1.1.0
+of_stage Index own bytes = tt
+of_stage Ring own bytes = tt
+of_stage (Link head at) own bytes = of16 head own.1.1.0
+of_stage AvailEvent own bytes = tt
+of_stage IndexAgain own bytes = tt
+of_stage (Entry head table at) own bytes = of16 head own.1.1.0
+of_stage (EntryRest head table at front) own bytes = (of16 head own.1.1.0, bytes)
 
-pub of_walk : (w : Walking) → walk.Fits w → IsNarrowStage w.stage
+pub of_walk : (a : Accepted) (w : Walking) → (walk a).Fits w → HoldsFront w.stage → IsNarrowStage w.stage
 unfolding walk walk_fields
-of_walk w own = of_stage w.stage own.0.1.1.0
+of_walk a w own bytes = of_stage w.stage own.0.1.1.0 bytes
 
-phase_of : (w : Option Walking) (p : FilePhase) (q : Queue) → (optional walk).Fits w → phase_format.Fits p → IsNarrowPhase (phase_kept w p q)
-unfolding phase_format
-phase_of (Some w) p q walks own = of_walk w (of_optional walk w walks)
-phase_of None Between q walks own = tt
-phase_of None (Break s) q walks own = tt
-phase_of None (Header len head) q walks own = of16 head own.1.1.1
-phase_of None (Serve place s head) q walks own = of16 head own.1.1.1.1
-phase_of None (Return len head s) q walks own = (of16 head own.1.1.1.0, of32 len own.1.1.0)
+-- where the device is
+abbrev pub HoldsPhase : Phase → Type 0
+HoldsPhase (at.Walk k w) = HoldsFront w.stage
+HoldsPhase p = Unit {0}
+
+phase_of : (w : Option Walking) (p : FilePhase) (q : Queue) → maybe_walk.Fits w → phase_format.Fits p → HoldsPhase (phase_kept w p q)
+    → IsNarrowPhase (phase_kept w p q)
+unfolding phase_format maybe_walk
+phase_of (Some w) p q walks own bytes =
+    of_walk w.queue.accepted w (of_maybe walk (λ w. w.queue.accepted) (walk_of (no_queue 0) 0) walk_marks w walks) bytes
+phase_of None Between q walks own bytes = tt
+phase_of None (Break s) q walks own bytes = tt
+phase_of None (Header len head) q walks own bytes = of16 head own.1.1.1
+phase_of None (Serve place s head) q walks own bytes = of16 head own.1.1.1.1
+phase_of None (Return len head s) q walks own bytes = (of16 head own.1.1.1.0, of32 len own.1.1.0)
 
 -- ---- its work and its data
 
@@ -180,25 +213,28 @@ unfolding collect
 few_held c own = held_of c.held own.1
 
 form_narrow : (f : FileBlock) (m : FileMore) → (ended block_fields end_of_device).Fits (f, m) → All IsByte f.from.held
-    → AreHeld m.waiting → IsNarrowKept (kept.Block (kept_of (f, m)))
+    → AreHeld m.waiting → HoldsPhase (phase_kept f.walk f.phase (hand_kept m.in_hand f.facts.queue))
+    → IsNarrowKept (kept.Block (kept_of (f, m)))
 unfolding ended block_fields
-form_narrow f m own bytes waits =
+form_narrow f m own bytes waits front =
     let behind = more_by (is_no_more m) m refl own.1 waits in (
       lanes_of f.facts m.waiting own.0.0 behind.waiting,
-      phase_of f.walk f.phase (hand_kept m.in_hand f.facts.queue) own.0.1.1.0 own.0.1.0,
+      phase_of f.walk f.phase (hand_kept m.in_hand f.facts.queue) own.0.1.1.0 own.0.1.0 front,
       record { held = (few_held f.from own.0.1.1.1.0, bytes); stage = work_of f.phase own.0.1.0 },
       data_of f.facts m.limits own.0.0 behind.limits,
     )
 
--- what a block device holds are bytes, and so is what a chain that waits holds
+-- what a block device holds are bytes, and so is what a chain that waits holds, and what was read of an entry
 abbrev pub HoldsBlock : QueueRounds BlockKind → Type 0
-HoldsBlock b = All IsByte b.kind.work.from.held × AreHeld b.rounds.first.waiting
+HoldsBlock b =
+    All IsByte b.kind.work.from.held × AreHeld b.rounds.first.waiting
+    × HoldsPhase (phase_kept (block_filed b).walk (block_filed b).phase (hand_kept (more_filed b).in_hand (block_filed b).facts.queue))
 
 block_narrow : (b : QueueRounds BlockKind) → block.Fits b → HoldsBlock b → IsNarrowKept (kept.Block b)
 unfolding block
 block_narrow b own bytes =
     subst (λ (it : QueueRounds BlockKind). IsNarrowKept (kept.Block it)) (sym own.0)
-    (form_narrow (block_filed b) (more_filed b) own.1.0 bytes.0 bytes.1)
+    (form_narrow (block_filed b) (more_filed b) own.1.0 bytes.0 bytes.1 bytes.2)
 
 pub block_is : (b : QueueRounds BlockKind) → device.Fits (kept.Block b) → HoldsBlock b → IsNarrowKept (kept.Block b)
 unfolding device

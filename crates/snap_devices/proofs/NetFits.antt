@@ -23,7 +23,8 @@ use Rattle.net_device.specs.Work.{IsSizedData, IsSmallText, IsSmallWork, Kept, i
 use Rattle.net_device.proofs.Keeping.{at_stage, has_clear, has_of, no_take, no_third, takes_of}
 use Rattle.net_device.proofs.Stages.{test_of_stage}
 use Rattle.snap_devices.specs.Limits.{limits}
-use Rattle.snap_devices.specs.Nets.{stage as stage_format, kind, kind_fields, net, net_fields, piece, text}
+use Rattle.snap_devices.specs.Nets.{stage as stage_format, kind, kind_fields, net, net_fields, text}
+use Rattle.snap_devices.specs.Queues.{piece}
 use Rattle.snap_devices.proofs.LimitsFits.{bucket_by}
 use Rattle.snap_devices.proofs.PieceFits.{parts_fit}
 use Rattle.snap_devices.proofs.RoundsFits.{facts, place_fits, rounds_fit}
@@ -59,7 +60,7 @@ end_fits : (bytes : List ℕ) → StageFits at.End bytes
 unfolding stage_format
 end_fits bytes = record { has = refl; fits = (fits8 5 (omega arith), refl) }
 
-module _ (pages : ℕ) (few : pages ≤ 2 ^ 18) where
+module _ (pages : ℕ) (few : pages ≤ 2 ^ 20) where
   take_fits : (size index : ℕ) (bytes : List ℕ) → is_work work.Answer pages (at_stage (at.Take size index) bytes) ≡ true
       → StageFits (at.Take size index) bytes
   unfolding stage_format
@@ -135,8 +136,8 @@ module _ (pages : ℕ) (few : pages ≤ 2 ^ 18) where
 
 -- ---- all of it
 
--- a network device of a guest of at most 2^18 pages, at a port whose number is a byte
-module _ (n : QueueRounds Kept) (is : is_state n ≡ true) (few : n.rounds.pages ≤ 2 ^ 18) (port : n.rounds.port < 2 ^ 8)
+-- a network device of a guest of at most 2^20 pages, at a port whose number is a byte
+module _ (n : QueueRounds Kept) (is : is_state n ≡ true) (few : n.rounds.pages ≤ 2 ^ 20) (port : n.rounds.port < 2 ^ 8)
     (short : AreShort true n.rounds) (narrow : IsNarrowPhase n.phase) (small : IsSmallWork n.kind.doing)
     (own : IsSizedData true n.kind.own) where
   parts : TestParts nets.net true is_work n.phase n.rounds n.kind.doing

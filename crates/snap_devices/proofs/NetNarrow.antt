@@ -1,5 +1,5 @@
 -- What is read of a network device has its widths.
-use Rattle.std.proofs.Common.{◌≤◌, ℕ, nat_le, true, List, length}
+use Rattle.std.proofs.Common.{◌≤◌, ℕ, nat_le, List, length}
 use Rattle.std.specs.List.{All}
 use Rattle.std.proofs.lemmas.Bool.{and_parts, leb-true}
 use Rattle.le_fields.specs.Fields.{IsByte}
@@ -15,8 +15,9 @@ use Rattle.guest_devices.specs.declared.device.Device.TheVariants as kept
 use Rattle.guest_devices.specs.Narrow.{IsNarrowKept}
 use Rattle.snap_devices.specs.Devices.{device}
 use Rattle.snap_devices.specs.Limits.{limits}
-use Rattle.snap_devices.specs.Nets.{kind, kind_fields, net, net_fields, piece, stage as stage_format, text}
-use Rattle.snap_devices.proofs.Narrow.{buckets_of}
+use Rattle.snap_devices.specs.Nets.{kind, kind_fields, net, net_fields, stage as stage_format, text}
+use Rattle.snap_devices.specs.Queues.{piece}
+use Rattle.snap_devices.proofs.Narrow.{HoldsPhase, buckets_of}
 use Rattle.snap_devices.proofs.RoundsNarrow.{AreAllHeld, place_narrow, rounds_narrow}
 
 text_narrow : (bytes : List ℕ) → text.Fits bytes → All IsByte bytes → IsSmallText bytes
@@ -50,12 +51,13 @@ stage_narrow at.End own bytes = tt
 -- what it holds are bytes
 abbrev pub HoldsNet : QueueRounds Kept → Type 0
 HoldsNet n = All IsByte n.kind.own.text × HoldsPiece n.kind.doing.stage × All IsByte n.kind.doing.bytes × AreAllHeld n.rounds
+    × HoldsPhase n.phase
 
 net_narrow : (n : QueueRounds Kept) → net.Fits n → HoldsNet n → IsNarrowKept (kept.Net n)
 unfolding net net_fields kind kind_fields
 net_narrow n own bytes = (
   rounds_narrow n.rounds own.0.0 bytes.3,
-  place_narrow n.phase own.0.1.0,
+  place_narrow n.phase own.0.1.0 bytes.4,
   (stage_narrow n.kind.doing.stage own.0.1.1.0.1.1.1.0 bytes.1, text_narrow n.kind.doing.bytes own.0.1.1.0.1.1.1.1 bytes.2),
   λ yes. record {
     text = text_narrow n.kind.own.text own.0.1.1.0.0 bytes.0;

@@ -33,7 +33,7 @@ use Rattle.vsock_device.specs.Vsock as vsocks
 use Rattle.vsock_device.specs.Work.{is_work}
 use Rattle.vsock_device.proofs.Stages.{fetches_of, has_of, no_take, sends_of}
 use Rattle.vsock_device.proofs.Unconnected as behind
-use Rattle.snap_devices.specs.Nets.{piece}
+use Rattle.snap_devices.specs.Queues.{piece}
 use Rattle.snap_devices.specs.Vsocks.{vsock_data, fetching, head, header, in_hand, operation, packet, stage as stage_format, vsock, vsock_fields}
 use Rattle.snap_devices.proofs.PieceFits.{collect_fits, held_fits, parts_fit}
 use Rattle.snap_devices.proofs.Reading.{is_fetched}
@@ -114,7 +114,7 @@ close_fits : (host : ℕ) → host < 2 ^ 32 → stage_format.Fits (at.Close host
 unfolding stage_format
 close_fits host small = (fits8 1 (omega arith), (refl, fits32 host small))
 
-module _ (pages : ℕ) (few : pages ≤ 2 ^ 18) where
+module _ (pages : ℕ) (few : pages ≤ 2 ^ 20) where
   fetching_fits : (len : ℕ) (from : Collect) → is_work (work.Serve Second) pages (at.Fetch from len) ≡ true
       → IsSmallStage (at.Fetch from len) → fetching.Fits from
   unfolding fetching
@@ -195,9 +195,9 @@ module _ (pages : ℕ) (few : pages ≤ 2 ^ 18) where
 
 -- ---- all of it
 
--- a vsock device of a guest of at most 2^18 pages, at a port whose number is a byte
+-- a vsock device of a guest of at most 2^20 pages, at a port whose number is a byte
 module _ (v : QueueRounds VsockKind) (is : is_state v ≡ true) (gone : is_unconnected v.kind.own ≡ true)
-    (few : v.rounds.pages ≤ 2 ^ 18) (port : v.rounds.port < 2 ^ 8) (short : AreShort true v.rounds)
+    (few : v.rounds.pages ≤ 2 ^ 20) (port : v.rounds.port < 2 ^ 8) (short : AreShort true v.rounds)
     (narrow : IsNarrowPhase v.phase) (small : IsSmallStage v.kind.stage) (own : IsSizedData true v.kind.own) where
   parts : TestParts vsocks.vsock false is_work v.phase v.rounds v.kind.stage
   parts = facts vsocks.vsock false is_work v.phase v.rounds v.kind.stage is few port short

@@ -21,9 +21,9 @@ use Rattle.vsock_device.specs.Small.{IsSmallAnswer, IsSmallConnection, IsSmallDa
 use Rattle.guest_devices.specs.declared.device.Device.TheVariants as kept
 use Rattle.guest_devices.specs.Narrow.{IsNarrowKept}
 use Rattle.snap_devices.specs.Devices.{device}
-use Rattle.snap_devices.specs.Nets.{piece}
-use Rattle.snap_devices.specs.Queues.{held}
+use Rattle.snap_devices.specs.Queues.{held, piece}
 use Rattle.snap_devices.specs.Vsocks.{vsock_data, head, header, in_hand, packet, stage as stage_format, vsock, vsock_fields}
+use Rattle.snap_devices.proofs.Narrow.{HoldsPhase}
 use Rattle.snap_devices.proofs.RoundsNarrow.{AreAllHeld, place_narrow, rounds_narrow}
 
 -- ---- its data
@@ -119,13 +119,13 @@ stage_small (at.Read host from) own bytes = of32 host own.1.1.0
 
 -- what it holds are bytes
 abbrev pub HoldsVsock : QueueRounds VsockKind → Type 0
-HoldsVsock v = HoldsPacket v.kind.own.in_hand × HoldsAct v.kind.stage × AreAllHeld v.rounds
+HoldsVsock v = HoldsPacket v.kind.own.in_hand × HoldsAct v.kind.stage × AreAllHeld v.rounds × HoldsPhase v.phase
 
 vsock_narrow : (v : QueueRounds VsockKind) → vsock.Fits v → HoldsVsock v → IsNarrowKept (kept.Vsock v)
 unfolding vsock vsock_fields
 vsock_narrow v own bytes = (
   rounds_narrow v.rounds own.0.0 bytes.2,
-  place_narrow v.phase own.0.1.0,
+  place_narrow v.phase own.0.1.0 bytes.3,
   stage_small v.kind.stage own.0.1.1.1 bytes.1,
   λ yes. data_small v.kind.own own.0.1.1.0 bytes.0,
 )

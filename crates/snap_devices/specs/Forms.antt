@@ -3,7 +3,7 @@
 -- is left to be read is told.
 use Rattle.std.specs.Prelude.{◌≡◌, ℕ, ◌+◌, ◌==◌, Bool, true, false, ◌&&◌, not, if◌then◌else◌, IsTrue, Option, Some, None, length, refl}
 use Rattle.std.proofs.Common.{sym, ap, ◌∙◌}
-use Rattle.std.proofs.lemmas.Bool.{and_from, and_parts, eqb-true}
+use Rattle.std.proofs.lemmas.Bool.{and_from, and_parts, eqb-true, not-true}
 use Rattle.vq_split.specs.declared.queue.Queue.{Queue}
 use Rattle.vq_split.specs.Walking.{Walking}
 use Rattle.vq_split.proofs.Kept.{is_eq}
@@ -19,7 +19,7 @@ use Rattle.queue_device.specs.declared.phase.InHand.{InHand}
 use Rattle.queue_device.specs.declared.phase.Phase.{Phase}
 use Rattle.queue_device.specs.declared.phase.Phase.TheVariants as phase
 use Rattle.queue_device.specs.Chains.{Chain}
-use Rattle.queue_device.specs.Kept.{is_same_queue}
+use Rattle.queue_device.specs.Kept.{is_same_bool, is_same_queue}
 use Rattle.queue_device.specs.Lanes.{new_lane}
 use Rattle.block_device.specs.declared.kind.BlockKind.{BlockKind}
 use Rattle.block_device.specs.declared.work.BlockStage.{BlockStage}
@@ -186,7 +186,9 @@ file_of b = (block_filed b, more_filed b)
 
 -- between two rounds there is no queue
 abbrev pub is_no_queue : Queue → Bool
-is_no_queue q = (q.descriptors == 0) && (q.available == 0) && (q.used == 0) && (q.size == 0)
+is_no_queue q =
+    (q.descriptors == 0) && (q.available == 0) && (q.used == 0) && (q.size == 0) && not q.accepted.indirect
+    && not q.accepted.event_index
 
 abbrev pub is_queue_due : FileDue → Queue → Bool
 is_queue_due Look q = is_no_queue q
@@ -233,7 +235,9 @@ is_form f = is_plain f && is_state (kept_of f)
 
 none_back : (q : Queue) → is_no_queue q ≡ true → q ≡ no_queue q.pages
 none_back q is =
-    let c = and_parts _ (q.size == 0) is in
+    let e = and_parts _ (not q.accepted.event_index) is in
+    let d = and_parts _ (not q.accepted.indirect) e.0 in
+    let c = and_parts _ (q.size == 0) d.0 in
     let b = and_parts _ (q.used == 0) c.0 in
     let a = and_parts (q.descriptors == 0) (q.available == 0) b.0 in
     λ i. record {
@@ -242,6 +246,7 @@ none_back q is =
       used = eqb-true q.used 0 b.1 i;
       size = eqb-true q.size 0 c.1 i;
       pages = q.pages;
+      accepted = record { indirect = not-true q.accepted.indirect d.1 i; event_index = not-true q.accepted.event_index e.1 i };
     }
 
 queue_back : (o : FileDue) (q : Queue) → is_queue_due o q ≡ true → q ≡ queue_filed q.pages (queue_kept o q)
@@ -275,12 +280,20 @@ walk_back None (Header len head) q = refl
 walk_back None (Serve at stage head) q = refl
 walk_back None (Return len head stage) q = refl
 
+same_bool : (b : Bool) → is_same_bool b b ≡ true
+same_bool true = refl
+same_bool false = refl
+
 same_refl : (q : Queue) → is_same_queue q q ≡ true
 same_refl q =
     and_from _ _
     (and_from _ _
+    (and_from _ _
+    (and_from _ _
     (and_from _ _ (and_from _ _ (is_eq q.descriptors _ refl) (is_eq q.available _ refl)) (is_eq q.used _ refl)) (is_eq q.size _ refl))
-    (is_eq q.pages _ refl)
+    (is_eq q.pages _ refl))
+    (same_bool q.accepted.indirect))
+    (same_bool q.accepted.event_index)
 
 no_other : (q : Queue) → None ≡ other_queue q q
 no_other q = sym (ap (λ (t : Bool). if t then None else Some q) (same_refl q))

@@ -1,4 +1,5 @@
 pub mod Ports
+pub mod Marks
 pub mod Queues
 pub mod Serving
 pub mod Phases

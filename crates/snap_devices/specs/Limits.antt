@@ -5,13 +5,16 @@ use Rattle.file_format.specs.Ends.{Lacking}
 use Rattle.file_format.specs.Format.{Format}
 use Rattle.file_format.specs.Readers.{optional_bytes}
 use Rattle.file_format.specs.Kinds.{number16, number64, optional, passing, ◌&◌, made_of}
+use Rattle.vm_types.specs.declared.port_look.Accepted.{Accepted}
 use Rattle.vq_split.specs.declared.queue.Queue.{Queue}
 use Rattle.vq_split.specs.Kept.{is_sound}
+use Rattle.dev_core.specs.Looks.{no_queue}
 use Rattle.token_bucket.specs.Kept.{Kept, is_kept}
 use Rattle.rate_gate.specs.Gate.{Buckets, is_limited}
 use Rattle.queue_device.specs.Chains.{Chain}
 use Rattle.snap_devices.specs.declared.file.FileMore.{FileMore}
-use Rattle.snap_devices.specs.Queues.{held, parts, queue}
+use Rattle.snap_devices.specs.Marks.{maybe}
+use Rattle.snap_devices.specs.Queues.{held, maybe_queue, parts, queue, queue_marks}
 use Rattle.snap_devices.specs.Standing.{standing}
 
 -- ---- a bucket
@@ -53,19 +56,30 @@ limits =
 -- ---- a chain that waits
 
 -- the queue that it is of, its head, the parts that it still needs, and what was read of it
-unfoldable pub chain_fields : Format Chain
-chain_fields =
+unfoldable pub chain_fields : Accepted → Format Chain
+chain_fields a =
     made_of (λ c. (c.queue, (c.head, (c.parts, (c.got.parts, c.got.bytes)))))
     (λ (queue, (head, (parts, (from, held)))).
     record { queue = queue; head = head; parts = parts; got = record { bytes = held; parts = from } })
     (λ _. refl) (λ _. refl)
-    (queue & number16 & parts & parts & held)
+    (queue a & number16 & parts & parts & held)
 
 abbrev pub is_of_sound : Chain → Bool
 is_of_sound c = is_sound c.queue
 
-unfoldable pub chain : Format Chain
-chain = passing is_of_sound chain_fields
+unfoldable pub chain : Accepted → Format Chain
+chain a = passing is_of_sound (chain_fields a)
+
+pub chain_marks : (a : Accepted) (c : Chain) → (chain a).Fits c → a ≡ c.queue.accepted
+unfolding chain chain_fields
+chain_marks a c fits = queue_marks a c.queue fits.0.0
+
+abbrev pub no_chain : Chain
+no_chain = record { queue = no_queue 0; head = 0; parts = []; got = record { bytes = []; parts = [] } }
+
+-- the chain, if one waits
+unfoldable pub maybe_chain : Format (Option Chain)
+maybe_chain = maybe chain (λ c. c.queue.accepted) no_chain chain_marks
 
 -- ---- all of it
 
@@ -74,7 +88,7 @@ more =
     made_of (λ m. (m.limits, (m.waiting, m.in_hand)))
     (λ (limits, (waiting, in_hand)). record { limits = limits; waiting = waiting; in_hand = in_hand })
     (λ _. refl) (λ _. refl)
-    (limits & optional chain & optional queue)
+    (limits & maybe_chain & maybe_queue)
 
 abbrev pub no_more : FileMore
 no_more = record { limits = record { bandwidth = None; ops = None }; waiting = None; in_hand = None }

@@ -1,5 +1,5 @@
 -- A network device as bytes.
-use Rattle.std.specs.Prelude.{◌≡◌, ℕ, zero, suc, nat_le, Bool, List, [], length, refl}
+use Rattle.std.specs.Prelude.{◌≡◌, ℕ, zero, suc, List, [], length, refl}
 use Rattle.std.proofs.Common.{sym, ap}
 use Rattle.file_format.specs.Format.{Format}
 use Rattle.file_format.specs.Kinds.{byte, number64, byte_list, just, nothing, variant, chosen_by, passing}
@@ -13,7 +13,7 @@ use Rattle.net_device.specs.States.{is_state}
 use Rattle.net_device.specs.Work.{Kept, has_stage}
 use Rattle.snap_devices.specs.Limits.{limits}
 use Rattle.snap_devices.specs.Places.{place}
-use Rattle.snap_devices.specs.Queues.{parts}
+use Rattle.snap_devices.specs.Queues.{parts, piece}
 use Rattle.snap_devices.specs.Rounds.{rounds}
 
 -- ---- bytes
@@ -21,13 +21,6 @@ use Rattle.snap_devices.specs.Rounds.{rounds}
 -- no byte, or the header and a frame, as far as it came
 unfoldable pub text : Format (List ℕ)
 text = passing is_text byte_list
-
--- the bytes of one act: at most 64
-abbrev pub is_piece : List ℕ → Bool
-is_piece bytes = nat_le (length bytes) 64
-
-unfoldable pub piece : Format (List ℕ)
-piece = passing is_piece byte_list
 
 -- ---- what it is at: a byte, and behind it what it has of that
 

@@ -32,7 +32,7 @@ break_code-is (suc (suc n)) s fits = absurd fits
 unfoldable pub break_stage : Format BreakStage
 break_stage = chosen_by byte breaks break_code break_code-is
 
--- ---- giving a chain back: the pair, its second half, the index, the interrupt, the line
+-- ---- giving a chain back: the pair, its second half, the index, the interrupt, the line, and behind the index the driver's event
 
 abbrev pub return_code : ReturnStage → ℕ
 return_code returning.Pair = 0
@@ -40,6 +40,7 @@ return_code returning.Half = 1
 return_code returning.Index = 2
 return_code returning.Interrupt = 3
 return_code returning.Line = 4
+return_code returning.Event = 5
 
 abbrev pub returns : ℕ → Format ReturnStage
 returns zero = just returning.Pair
@@ -47,7 +48,8 @@ returns (suc zero) = just returning.Half
 returns (suc (suc zero)) = just returning.Index
 returns (suc (suc (suc zero))) = just returning.Interrupt
 returns (suc (suc (suc (suc zero)))) = just returning.Line
-returns (suc (suc (suc (suc (suc n))))) = nothing
+returns (suc (suc (suc (suc (suc zero))))) = just returning.Event
+returns (suc (suc (suc (suc (suc (suc n)))))) = nothing
 
 pub return_code-is : (code : ℕ) (s : ReturnStage) → (returns code).Fits s → code ≡ return_code s
 return_code-is zero s fits = sym (ap return_code fits)
@@ -55,7 +57,8 @@ return_code-is (suc zero) s fits = sym (ap return_code fits)
 return_code-is (suc (suc zero)) s fits = sym (ap return_code fits)
 return_code-is (suc (suc (suc zero))) s fits = sym (ap return_code fits)
 return_code-is (suc (suc (suc (suc zero)))) s fits = sym (ap return_code fits)
-return_code-is (suc (suc (suc (suc (suc n))))) s fits = absurd fits
+return_code-is (suc (suc (suc (suc (suc zero))))) s fits = sym (ap return_code fits)
+return_code-is (suc (suc (suc (suc (suc (suc n)))))) s fits = absurd fits
 
 unfoldable pub return_stage : Format ReturnStage
 return_stage = chosen_by byte returns return_code return_code-is

@@ -2,7 +2,8 @@
 use Rattle.std.specs.Prelude.{◌≡◌, ℕ, zero, suc, Bool, refl}
 use Rattle.std.proofs.Common.{sym, ap}
 use Rattle.file_format.specs.Format.{Format}
-use Rattle.file_format.specs.Kinds.{byte, number16, number32, just, nothing, variant, chosen_by, passing, ◌&◌, made_of}
+use Rattle.file_format.specs.Kinds.{byte, number16, number32, just, nothing, variant, chosen_by, passing, ◌&◌}
+use Rattle.vm_types.specs.declared.port_look.Accepted.{Accepted}
 use Rattle.vq_split.specs.Kept.{is_sound}
 use Rattle.vq_split.specs.Walking.{Walking, walk_of}
 use Rattle.dev_core.specs.declared.breaking.BreakStage.{BreakStage}
@@ -16,24 +17,42 @@ use Rattle.queue_device.specs.declared.phase.InHand.{InHand}
 use Rattle.queue_device.specs.declared.phase.Phase.{Phase}
 use Rattle.queue_device.specs.declared.phase.Phase.TheVariants as phase
 use Rattle.snap_devices.specs.Phases.{break_stage, return_stage}
-use Rattle.snap_devices.specs.Queues.{queue, walk}
+use Rattle.snap_devices.specs.Marks.{of_queue}
+use Rattle.snap_devices.specs.Queues.{queue, queue_marks, walk, walk_marks}
 use Rattle.snap_devices.specs.Rounds.{which}
 
 -- ---- a chain in hand
 
--- the number of its queue, that queue's registers, which have no flaw, and the chain's head
-unfoldable pub hand_fields : Format InHand
-hand_fields =
-    made_of (λ c. (c.which, (c.queue, c.head)))
-    (λ (which, (queue, head)). record { which = which; queue = queue; head = head })
-    (λ _. refl) (λ _. refl)
-    (which & queue & number16)
-
 abbrev pub is_hand : InHand → Bool
 is_hand c = is_sound c.queue
 
+-- the number of its queue with what was accepted, that queue's registers, which have no flaw, and the chain's head
+unfoldable pub hand_fields : Which → Accepted → Format InHand
+hand_fields k a =
+    variant (λ (queue, head). record { which = k; queue = queue; head = head }) (λ c. (c.queue, c.head)) (λ _. refl) (queue a & number16)
+
+unfoldable pub hand_by : Which → Accepted → Format InHand
+hand_by k a = passing is_hand (hand_fields k a)
+
+pub hand_marks : (k : Which) (a : Accepted) (c : InHand) → (hand_by k a).Fits c → (k ≡ c.which) × (a ≡ c.queue.accepted)
+unfolding hand_by hand_fields
+hand_marks k a c fits = (sym (ap (λ (x : InHand). x.which) fits.0.0), queue_marks a c.queue fits.0.1.0)
+
 unfoldable pub hand : Format InHand
-hand = passing is_hand hand_fields
+hand = of_queue hand_by (λ c. c.which) (λ c. c.queue.accepted) hand_marks
+
+-- ---- a walk of the next chain of a queue
+
+unfoldable pub walked_by : Which → Accepted → Format (Which × Walking)
+walked_by k a = variant (λ w. (k, w)) (λ v. v.1) (λ _. refl) (walk a)
+
+pub walked_marks : (k : Which) (a : Accepted) (v : Which × Walking) → (walked_by k a).Fits v → (k ≡ v.0) × (a ≡ v.1.queue.accepted)
+unfolding walked_by
+walked_marks k a v fits = (sym (ap (λ (x : Which × Walking). x.0) fits.0), walk_marks a v.1 fits.1)
+
+-- the number of the queue with what was accepted, and the walk
+unfoldable pub walked : Format (Which × Walking)
+walked = of_queue walked_by (λ v. v.0) (λ v. v.1.queue.accepted) walked_marks
 
 -- ---- where it is: a byte, and behind it what it is at
 
@@ -72,7 +91,7 @@ broken_of _ = (First, breaking.Port)
 abbrev pub places : ℕ → Format Phase
 places zero = just phase.Between
 places (suc zero) = just phase.Question
-places (suc (suc zero)) = variant (λ w. phase.Walk w.0 w.1) walked_of (λ _. refl) (which & walk)
+places (suc (suc zero)) = variant (λ w. phase.Walk w.0 w.1) walked_of (λ _. refl) walked
 places (suc (suc (suc zero))) = variant phase.Take hand_of (λ _. refl) hand
 places (suc (suc (suc (suc zero)))) = variant phase.Serve hand_of (λ _. refl) hand
 places (suc (suc (suc (suc (suc zero))))) =

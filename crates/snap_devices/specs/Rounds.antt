@@ -2,7 +2,7 @@
 use Rattle.std.specs.Prelude.{◌≡◌, ℕ, zero, suc, refl}
 use Rattle.std.proofs.Common.{sym, ap}
 use Rattle.file_format.specs.Format.{Format}
-use Rattle.file_format.specs.Kinds.{byte, number16, number32, flag, optional, just, nothing, variant, chosen_by}
+use Rattle.file_format.specs.Kinds.{byte, number16, number32, flag, just, nothing, variant, chosen_by}
 use Rattle.file_format.specs.Kinds.{◌&◌, made_of}
 use Rattle.queue_device.specs.declared.lanes.Due.{Due}
 use Rattle.queue_device.specs.declared.lanes.Due.TheVariants as due
@@ -10,15 +10,11 @@ use Rattle.queue_device.specs.declared.lanes.Lane.{Lane}
 use Rattle.queue_device.specs.declared.lanes.Rounds.{Rounds}
 use Rattle.queue_device.specs.declared.lanes.Which.{Which}
 use Rattle.queue_device.specs.declared.lanes.Which.TheVariants.{First, Second, Third}
-use Rattle.snap_devices.specs.Limits.{chain}
-use Rattle.snap_devices.specs.Queues.{queue}
+use Rattle.snap_devices.specs.Limits.{maybe_chain}
+use Rattle.snap_devices.specs.Marks.{which_code}
+use Rattle.snap_devices.specs.Queues.{maybe_queue}
 
 -- ---- one of its queues: its number
-
-abbrev pub which_code : Which → ℕ
-which_code First = 0
-which_code Second = 1
-which_code Third = 2
 
 abbrev pub which_queues : ℕ → Format Which
 which_queues zero = just First
@@ -74,7 +70,7 @@ lane =
     (λ ((next, (used, is_kicked)), (queue, waiting)).
     record { queue = queue; waiting = waiting; next = next; used = used; is_kicked = is_kicked })
     (λ _. refl) (λ _. refl)
-    ((number16 & number16 & flag) & (optional queue & optional chain))
+    ((number16 & number16 & flag) & (maybe_queue & maybe_chain))
 
 -- the pages of its guest, the number of its port, what is due, and whether the round gave a chain back or received something; and its
 -- three queues

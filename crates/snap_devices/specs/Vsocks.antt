@@ -23,9 +23,8 @@ use Rattle.vsock_device.specs.declared.packet.Packet.{Packet}
 use Rattle.vsock_device.specs.Reset.{unconnected}
 use Rattle.vsock_device.specs.States.{is_state}
 use Rattle.vsock_device.specs.Work.{is_fetching}
-use Rattle.snap_devices.specs.Nets.{piece}
+use Rattle.snap_devices.specs.Queues.{collect, held, parts, piece}
 use Rattle.snap_devices.specs.Places.{place}
-use Rattle.snap_devices.specs.Queues.{collect, held, parts}
 use Rattle.snap_devices.specs.Rounds.{rounds}
 
 -- ---- packets for the guest

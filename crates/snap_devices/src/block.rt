@@ -1,15 +1,16 @@
 // A block device.
-ghost use Rattle.std.specs.Prelude.{◌≡◌, ◌++◌, OnOk};
+ghost use Rattle.std.specs.Prelude.{◌≡◌, ◌<◌, ◌++◌, OnOk};
 ghost use Rattle.file_format.specs.Ends.{TakesAll};
-ghost use Rattle.file_format.specs.Kinds.{optional};
 ghost use Rattle.file_format.specs.Reading.{Takes};
-ghost use Rattle.snap_devices.specs.Blocks.{block, block_data, block_fields, due, due_code};
+ghost use Rattle.snap_devices.specs.Blocks as blocks;
+ghost use Rattle.snap_devices.specs.Blocks.{block, block_data, block_fields, due_at, due_code};
 ghost use Rattle.snap_devices.specs.Forms.{block_filed, walk_filed};
-ghost use Rattle.snap_devices.specs.Queues.{walk};
+ghost use Rattle.snap_devices.specs.Queues.{maybe_walk};
 
 use crate::file::{FileBlock, FileData, FileDue, FilePhase};
 use crate::form::{block_of, data_filed, more_filed, phase_filed};
 use crate::limits::{read_more, write_more};
+use crate::mark::{accepted_at, accepted_code};
 use crate::queue::{read_begun, read_collect, read_parts, write_collect, write_parts, write_walk};
 use crate::saved::Saved;
 use block_device::{Block, BlockKind};
@@ -17,10 +18,12 @@ use dev_core::Scatter;
 use file_format::{Input, ReadError, Stored};
 use queue_device::{Phase, QueueRounds};
 use std::alloc::{AllocError, Global};
+use vm_types::Accepted;
 use vq_split::Queue;
 
 fn due_code(due: FileDue) -> u8
-    ensures { result ≡ due_code due }
+    ensures code { result ≡ due_code due }
+    ensures few { result < 3 }
 {
     match due {
         FileDue::Look => 0,
@@ -29,83 +32,104 @@ fn due_code(due: FileDue) -> u8
     }
 }
 
-#[tactic(auto, unfolding(crate::specs::Blocks::due, file_format::specs::Kinds::byte))]
-impl Stored for Saved<FileDue> {
-    ghost format = { due };
-
-    fn write(&self, out: &mut Vec<u8>) -> Result<(), AllocError> {
-        due_code(self.value).write(out)?;
-        Ok(())
-    }
-
-    fn read(alloc: Global, input: &mut Input) -> Result<Saved<FileDue>, ReadError> {
-        let value = match u8::read(alloc, input)? {
-            0 => FileDue::Look,
-            1 => FileDue::Walk,
-            2 => FileDue::Idle,
-            _ => return Err(ReadError::Bad),
-        };
-        Ok(Saved { value })
+fn due_at(code: u8) -> Option<FileDue>
+    ensures { result ≡ due_at code }
+{
+    match code {
+        0 => Some(FileDue::Look),
+        1 => Some(FileDue::Walk),
+        2 => Some(FileDue::Idle),
+        _ => None,
     }
 }
 
-#[tactic(auto, unfolding(crate::specs::Blocks::block_data))]
-impl Stored for Saved<FileData> {
-    ghost format = { block_data };
+// What is due, with what was accepted of the queue that is worked on.
+#[tactic(auto, unfolding(crate::specs::Blocks::due, crate::specs::Marks::marked, file_format::specs::Kinds::byte), using(crate::specs::Blocks::at_due))]
+fn write_due(due: FileDue, accepted: Accepted, out: &mut Vec<u8>) -> Result<(), AllocError>
+    ensures fits { OnOk result (blocks.due.Fits (due, accepted)) }
+    ensures bytes { OnOk result (out.new.items ≡ blocks.due.puts (due, accepted) out.old.items) }
+{
+    (due_code(due) + 4 * accepted_code(accepted)).write(out)?;
+    Ok(())
+}
 
-    fn write(&self, out: &mut Vec<u8>) -> Result<(), AllocError> {
-        self.value.sectors.write(out)?;
-        Saved {
-            value: self.value.queue,
-        }
-        .write(out)?;
-        self.value.drive_id.write(out)?;
-        self.value.next.write(out)?;
-        self.value.used.write(out)?;
-        self.value.port.write(out)?;
-        self.value.is_read_only.write(out)?;
-        self.value.is_kicked.write(out)?;
-        self.value.has_finished.write(out)?;
-        Saved {
-            value: self.value.due,
-        }
-        .write(out)?;
-        Ok(())
-    }
-
-    fn read(alloc: Global, input: &mut Input) -> Result<Saved<FileData>, ReadError> {
-        let (sectors, queue): (u64, Saved<Queue>) = Stored::read(alloc, input)?;
-        let drive_id = Stored::read(alloc, input)?;
-        let (next, used) = Stored::read(alloc, input)?;
-        let (port, (is_read_only, (is_kicked, (has_finished, due)))): (
-            u8,
-            (bool, (bool, (bool, Saved<FileDue>))),
-        ) = Stored::read(alloc, input)?;
-        Ok(Saved {
-            value: FileData {
-                sectors,
-                queue: queue.value,
-                drive_id,
-                next,
-                used,
-                port,
-                is_read_only,
-                is_kicked,
-                has_finished,
-                due: due.value,
-            },
-        })
+#[tactic(auto, unfolding(crate::specs::Blocks::due, crate::specs::Marks::marked, file_format::specs::Kinds::byte))]
+fn read_due(alloc: Global, input: &mut Input) -> Result<(FileDue, Accepted), ReadError>
+    ensures { Takes blocks.due input.old input.new result }
+{
+    let code = u8::read(alloc, input)?;
+    match due_at(code % 4) {
+        None => Err(ReadError::Bad),
+        Some(due) => match accepted_at(code / 4) {
+            None => Err(ReadError::Bad),
+            Some(accepted) => Ok((due, accepted)),
+        },
     }
 }
 
-#[tactic(auto, unfolding(file_format::specs::Kinds::optional, file_format::specs::Kinds::flag))]
+#[tactic(auto, unfolding(crate::specs::Blocks::block_data, crate::specs::Queues::registers))]
+fn write_data(it: &FileData, out: &mut Vec<u8>) -> Result<(), AllocError>
+    ensures fits { OnOk result (block_data.Fits it.now) }
+    ensures bytes { OnOk result (out.new.items ≡ block_data.puts it.now out.old.items) }
+{
+    it.sectors.write(out)?;
+    it.queue.descriptors.write(out)?;
+    it.queue.available.write(out)?;
+    it.queue.used.write(out)?;
+    it.queue.size.write(out)?;
+    it.queue.pages.write(out)?;
+    it.drive_id.write(out)?;
+    it.next.write(out)?;
+    it.used.write(out)?;
+    it.port.write(out)?;
+    it.is_read_only.write(out)?;
+    it.is_kicked.write(out)?;
+    it.has_finished.write(out)?;
+    write_due(it.due, it.queue.accepted, out)?;
+    Ok(())
+}
+
+#[tactic(auto, unfolding(crate::specs::Blocks::block_data, crate::specs::Queues::registers))]
+fn read_data(alloc: Global, input: &mut Input) -> Result<FileData, ReadError>
+    ensures { Takes block_data input.old input.new result }
+{
+    let (sectors, (descriptors, (available, (used_ring, (size, pages))))) = Stored::read(
+        alloc, input,
+    )?;
+    let drive_id = Stored::read(alloc, input)?;
+    let (next, used) = Stored::read(alloc, input)?;
+    let (port, (is_read_only, (is_kicked, has_finished))) = Stored::read(alloc, input)?;
+    let (due, accepted) = read_due(alloc, input)?;
+    let queue = Queue {
+        descriptors,
+        available,
+        used: used_ring,
+        size,
+        pages,
+        accepted,
+    };
+    Ok(FileData {
+        sectors,
+        queue,
+        drive_id,
+        next,
+        used,
+        port,
+        is_read_only,
+        is_kicked,
+        has_finished,
+        due,
+    })
+}
+
+#[tactic(auto, unfolding(crate::specs::Queues::maybe_walk, crate::specs::Marks::maybe, file_format::specs::Kinds::byte), using(crate::specs::Marks::at_code))]
 fn write_begun(phase: &Phase, out: &mut Vec<u8>) -> Result<(), AllocError>
-    ensures fits { OnOk result ((optional walk).Fits (walk_filed phase.now)) }
-    ensures bytes { OnOk result (out.new.items ≡ (optional walk).puts (walk_filed phase.now) out.old.items) }
+    ensures fits { OnOk result (maybe_walk.Fits (walk_filed phase.now)) }
+    ensures bytes { OnOk result (out.new.items ≡ maybe_walk.puts (walk_filed phase.now) out.old.items) }
 {
     match phase {
         Phase::Walk { which: _, walk } => {
-            true.write(out)?;
+            (1 + accepted_code(walk.queue().accepted)).write(out)?;
             write_walk(walk, out)?;
         }
         Phase::Between
@@ -113,7 +137,7 @@ fn write_begun(phase: &Phase, out: &mut Vec<u8>) -> Result<(), AllocError>
         | Phase::Take { .. }
         | Phase::Serve { .. }
         | Phase::Return { .. }
-        | Phase::Break { .. } => false.write(out)?,
+        | Phase::Break { .. } => 0u8.write(out)?,
     }
     Ok(())
 }
@@ -124,10 +148,7 @@ fn write_fields(b: &QueueRounds<BlockKind>, out: &mut Vec<u8>) -> Result<(), All
     ensures bytes { OnOk result (out.new.items ≡ block_fields.puts (block_filed b.now) out.old.items) }
 {
     let work = &b.kind.work;
-    Saved {
-        value: data_filed(b),
-    }
-    .write(out)?;
+    write_data(&data_filed(b), out)?;
     Saved {
         value: phase_filed(&b.phase, work),
     }
@@ -142,12 +163,13 @@ fn write_fields(b: &QueueRounds<BlockKind>, out: &mut Vec<u8>) -> Result<(), All
 fn read_fields(alloc: Global, input: &mut Input) -> Result<FileBlock, ReadError>
     ensures { Takes block_fields input.old input.new result }
 {
-    let (facts, phase): (Saved<FileData>, Saved<FilePhase>) = Stored::read(alloc, input)?;
+    let facts = read_data(alloc, input)?;
+    let phase: Saved<FilePhase> = Stored::read(alloc, input)?;
     let walk = read_begun(alloc, input)?;
     let from = read_collect(alloc, input)?;
     let to = read_parts(alloc, input)?;
     Ok(FileBlock {
-        facts: facts.value,
+        facts,
         phase: phase.value,
         walk,
         from,

@@ -165,7 +165,12 @@ fn is_queue_due(due: FileDue, queue: &Queue) -> bool
     match due {
         FileDue::Walk => true,
         FileDue::Look | FileDue::Idle => {
-            queue.descriptors == 0 && queue.available == 0 && queue.used == 0 && queue.size == 0
+            queue.descriptors == 0
+                && queue.available == 0
+                && queue.used == 0
+                && queue.size == 0
+                && !queue.accepted.indirect
+                && !queue.accepted.event_index
         }
     }
 }
@@ -199,6 +204,8 @@ fn is_same_queue(a: &Queue, b: &Queue) -> bool
         && a.used == b.used
         && a.size == b.size
         && a.pages == b.pages
+        && a.accepted.indirect == b.accepted.indirect
+        && a.accepted.event_index == b.accepted.event_index
 }
 
 fn is_hand(

@@ -16,6 +16,10 @@
 //! the configuration. A queue, 33 bytes: QueueDesc, QueueDriver and QueueDevice (8 each), QueueNum and QueueReady (4
 //! each), and the flag that it was kicked.
 //!
+//! What was accepted of a queue, 0 neither, 1 indirect descriptors, 2 the event index, 3 both, stands in the byte in front of
+//! it: 0 where there is no queue, walk or chain, and else 1 and what was accepted; a queue's number in front of a walk or a
+//! chain in hand, and the byte of what is due, have four times that added. `specs/Marks` says so.
+//!
 //! A device: its kind (1 byte: 0 net, 1 block, 2 balloon, 3 vsock), and what is kept of it. A block device:
 //!
 //! - its data, 67 bytes: the size of the disk in sectors (8); the queue, 30 bytes: its three tables (8 each), its size
@@ -26,15 +30,17 @@
 //!   line is told (1); 2 the header of a request: how many bytes the chain has for the device to read (8), and its head
 //!   (2); 3 a request is served: where its status goes (8), the act, and the head (2); 4 a chain is given back: how
 //!   many bytes were written (4), the head (2), and how far (1: 0 the pair, 1 its second half, 2 the index, 3 the
-//!   interrupt, 4 the line);
+//!   interrupt, 4 the line, 5 the driver's event);
 //! - the act of a request, a byte and what follows it: 0 a unit is read from the disk, 1 its bytes are written to the
 //!   driver's parts, each with the sector, how many units behind it, and how many follow (8 each); 2 the drive's id
 //!   is written; 3 a piece is read of the driver's parts, 4 a unit is written to the disk, each with the sector, the
 //!   part of it, below 8, and how many follow (8 each); 5 a flush; 6 the status is written: it (1), and the used
 //!   length (4);
 //! - the walk that is begun, an option: the queue, 30 bytes; the number of its chain (2); the act (1: 0 the index, 1
-//!   the ring's entry, 2 a descriptor, and behind a 2 the chain's head and the descriptor's number, 2 each); the list
-//!   of its parts;
+//!   the ring's entry, 2 a descriptor, and behind a 2 the chain's head and the descriptor's number, 2 each; 3 the event is
+//!   written, 4 the index once more; 5 an entry of a table, 6 the rest of one: the chain's head (2), where the table is (8), how
+//!   many entries it has and which is read (2 each), and behind a 6 the list of the bytes that were read); the list of its
+//!   parts;
 //! - the list of the parts that are still read; the list of the bytes that are held; the list of the parts that are
 //!   still written. A part, 13 bytes: where it is (8), how many bytes it has (4), and the flag that the device writes
 //!   it;
@@ -103,6 +109,7 @@ mod file;
 mod form;
 mod law;
 mod limits;
+mod mark;
 mod net;
 mod phase;
 mod place;

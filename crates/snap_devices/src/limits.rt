@@ -3,18 +3,21 @@ ghost use Rattle.std.specs.Prelude.{◌≡◌, ◌++◌, OnOk};
 ghost use Rattle.file_format.specs.Ends.{EndFits, TakesEnd, end_bytes};
 ghost use Rattle.file_format.specs.Kinds.{optional};
 ghost use Rattle.file_format.specs.Reading.{Takes};
-ghost use Rattle.snap_devices.specs.Limits.{bucket, chain, end_of_device, is_no_more, limits, more, owed};
-ghost use Rattle.snap_devices.specs.Queues.{queue};
+ghost use Rattle.snap_devices.specs.Limits.{bucket, chain, end_of_device, is_no_more, limits, maybe_chain, more, owed};
 
 use crate::file::FileMore;
-use crate::queue::{read_collect, read_parts, write_collect, write_parts};
+use crate::mark::{accepted_at, accepted_code};
+use crate::queue::{
+    read_collect, read_parts, read_queue, read_registers, write_collect, write_parts, write_queue,
+    write_registers,
+};
 use crate::saved::Saved;
 use file_format::{Input, ReadError, Stored};
 use queue_device::{SoundQueue, TakenChain, TakenParts};
 use rate_gate::RateGate;
 use std::alloc::{AllocError, Global};
 use token_bucket::{Bucket, BucketParts};
-use vq_split::Queue;
+use vm_types::Accepted;
 
 const HALF: u128 = 0x1_0000_0000_0000_0000;
 
@@ -119,13 +122,10 @@ pub(crate) fn read_limits(alloc: Global, input: &mut Input) -> Result<RateGate, 
 
 #[tactic(auto, unfolding(crate::specs::Limits::chain, crate::specs::Limits::chain_fields, crate::specs::Queues::collect), using(vq_split::proofs::Kept::test_of_sound))]
 fn write_chain(it: &TakenChain, out: &mut Vec<u8>) -> Result<(), AllocError>
-    ensures fits { OnOk result (chain.Fits it.now) }
-    ensures bytes { OnOk result (out.new.items ≡ chain.puts it.now out.old.items) }
+    ensures fits { OnOk result ((chain it.now.queue.accepted).Fits it.now) }
+    ensures bytes { OnOk result (out.new.items ≡ (chain it.now.queue.accepted).puts it.now out.old.items) }
 {
-    Saved {
-        value: it.queue().fields(),
-    }
-    .write(out)?;
+    write_registers(&it.queue().fields(), out)?;
     it.head().write(out)?;
     write_parts(it.parts().as_slice(), out)?;
     write_collect(it.got(), out)?;
@@ -133,72 +133,49 @@ fn write_chain(it: &TakenChain, out: &mut Vec<u8>) -> Result<(), AllocError>
 }
 
 #[tactic(auto, unfolding(crate::specs::Limits::chain, crate::specs::Limits::chain_fields, crate::specs::Queues::collect))]
-fn read_chain(alloc: Global, input: &mut Input) -> Result<TakenChain, ReadError>
-    ensures { Takes chain input.old input.new result }
+fn read_chain(alloc: Global, accepted: Accepted, input: &mut Input) -> Result<TakenChain, ReadError>
+    ensures { Takes (chain accepted) input.old input.new result }
 {
-    let (queue, head): (Saved<Queue>, u16) = Stored::read(alloc, input)?;
+    let queue = read_registers(alloc, accepted, input)?;
+    let head = u16::read(alloc, input)?;
     let parts = read_parts(alloc, input)?;
     let got = read_collect(alloc, input)?;
-    match SoundQueue::from_fields(queue.value) {
+    match SoundQueue::from_fields(queue) {
         Some(queue) => Ok(TakenChain::new(queue, head, TakenParts::new(parts, got))),
         None => Err(ReadError::Bad),
     }
 }
 
 /// Puts the chain that waits, if there is one, at the end.
-#[tactic(auto, unfolding(file_format::specs::Kinds::optional, file_format::specs::Kinds::flag))]
+#[tactic(auto, unfolding(crate::specs::Limits::maybe_chain, crate::specs::Marks::maybe, file_format::specs::Kinds::byte), using(crate::specs::Marks::at_code))]
 pub fn write_waiting(it: &Option<TakenChain>, out: &mut Vec<u8>) -> Result<(), AllocError>
-    ensures fits { OnOk result ((optional chain).Fits it.now) }
-    ensures bytes { OnOk result (out.new.items ≡ (optional chain).puts it.now out.old.items) }
+    ensures fits { OnOk result (maybe_chain.Fits it.now) }
+    ensures bytes { OnOk result (out.new.items ≡ maybe_chain.puts it.now out.old.items) }
 {
     match it {
         Some(chain) => {
-            true.write(out)?;
+            (1 + accepted_code(chain.queue().fields().accepted)).write(out)?;
             write_chain(chain, out)?;
         }
-        None => false.write(out)?,
+        None => 0u8.write(out)?,
     }
     Ok(())
 }
 
 /// Takes it from the front.
-#[tactic(auto, unfolding(file_format::specs::Kinds::optional, file_format::specs::Kinds::flag))]
+#[tactic(auto, unfolding(crate::specs::Limits::maybe_chain, crate::specs::Marks::maybe, file_format::specs::Kinds::byte))]
 pub fn read_waiting(alloc: Global, input: &mut Input) -> Result<Option<TakenChain>, ReadError>
-    ensures { Takes (optional chain) input.old input.new result }
+    ensures { Takes maybe_chain input.old input.new result }
 {
-    if bool::read(alloc, input)? {
-        let chain = read_chain(alloc, input)?;
-        Ok(Some(chain))
-    } else {
-        Ok(None)
+    let code = u8::read(alloc, input)?;
+    if code == 0 {
+        return Ok(None);
     }
-}
-
-/// Puts a queue, if there is one, at the end.
-#[tactic(auto, unfolding(file_format::specs::Kinds::optional, file_format::specs::Kinds::flag))]
-pub fn write_queue(it: Option<Queue>, out: &mut Vec<u8>) -> Result<(), AllocError>
-    ensures fits { OnOk result ((optional queue).Fits it) }
-    ensures bytes { OnOk result (out.new.items ≡ (optional queue).puts it out.old.items) }
-{
-    match it {
-        Some(value) => {
-            true.write(out)?;
-            Saved { value }.write(out)?;
-        }
-        None => false.write(out)?,
-    }
-    Ok(())
-}
-
-/// Takes it from the front.
-pub fn read_queue(alloc: Global, input: &mut Input) -> Result<Option<Queue>, ReadError>
-    ensures { Takes (optional queue) input.old input.new result }
-{
-    let it: Option<Saved<Queue>> = Stored::read(alloc, input)?;
-    match it {
-        Some(queue) => Ok(Some(queue.value)),
-        None => Ok(None),
-    }
+    let Some(accepted) = accepted_at(code - 1) else {
+        return Err(ReadError::Bad);
+    };
+    let chain = read_chain(alloc, accepted, input)?;
+    Ok(Some(chain))
 }
 
 // ---- all of it

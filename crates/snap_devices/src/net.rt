@@ -3,18 +3,18 @@ ghost use Rattle.std.specs.Prelude.{◌≡◌, ◌≤◌, OnOk, length, true};
 ghost use Rattle.file_format.specs.Ends.{TakesAll, whole};
 ghost use Rattle.file_format.specs.Reading.{Takes};
 ghost use Rattle.net_device.specs.Frames.{is_text};
-ghost use Rattle.snap_devices.specs.Nets.{kind, net, net_fields, piece, stage, stage_code, text};
+ghost use Rattle.snap_devices.specs.Nets.{kind, net, net_fields, stage, stage_code, text};
 
 use crate::limits::{read_limits, write_limits};
 use crate::place::{read_place, write_place};
-use crate::queue::{read_parts, write_parts};
+use crate::queue::{read_parts, read_piece, write_parts, write_piece};
 use crate::rounds::{read_rounds, write_rounds};
 use dev_core::{Gather, Scatter};
 use file_format::{Input, ReadError, Stored, write_count};
 use net_device::{NetDevice, NetKind, Stage, Text};
 use queue_device::QueueRounds;
 use std::alloc::{AllocError, Global};
-use vm_types::{ByteList, Piece};
+use vm_types::ByteList;
 
 #[tactic(auto, unfolding(crate::specs::Nets::text, file_format::specs::Kinds::byte_list))]
 fn write_text(bytes: &[u8], out: &mut Vec<u8>) -> Result<(), AllocError>
@@ -35,29 +35,6 @@ fn read_text(alloc: Global, input: &mut Input) -> Result<Text, ReadError>
     match Text::copy_of(bytes.as_slice()) {
         Some(text) => Ok(text),
         None => Err(ReadError::Bad),
-    }
-}
-
-#[tactic(auto, unfolding(crate::specs::Nets::piece, file_format::specs::Kinds::byte_list))]
-pub(crate) fn write_piece(bytes: &[u8], out: &mut Vec<u8>) -> Result<(), AllocError>
-    requires { length bytes.now ≤ 64 }
-    ensures fits { OnOk result (piece.Fits bytes.now) }
-    ensures bytes { OnOk result (out.new.items ≡ piece.puts bytes.now out.old.items) }
-{
-    write_count(bytes.len(), out)?;
-    out.extend_from_slice(bytes)?;
-    Ok(())
-}
-
-#[tactic(auto, unfolding(crate::specs::Nets::piece))]
-pub(crate) fn read_piece(alloc: Global, input: &mut Input) -> Result<Piece, ReadError>
-    ensures { Takes piece input.old input.new result }
-{
-    let bytes: ByteList = Stored::read(alloc, input)?;
-    if bytes.as_slice().len() <= 64 {
-        Ok(Piece::from_slice(bytes.as_slice()))
-    } else {
-        Err(ReadError::Bad)
     }
 }
 

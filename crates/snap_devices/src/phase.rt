@@ -49,6 +49,7 @@ fn return_code(stage: ReturnStage) -> u8
         ReturnStage::Index => 2,
         ReturnStage::Interrupt => 3,
         ReturnStage::Line => 4,
+        ReturnStage::Event => 5,
     }
 }
 
@@ -68,6 +69,7 @@ impl Stored for Saved<ReturnStage> {
             2 => ReturnStage::Index,
             3 => ReturnStage::Interrupt,
             4 => ReturnStage::Line,
+            5 => ReturnStage::Event,
             _ => return Err(ReadError::Bad),
         };
         Ok(Saved { value })

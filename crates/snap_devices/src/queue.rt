@@ -1,44 +1,83 @@
 // A queue, the parts of a chain, and the walk of one.
 ghost use Rattle.std.specs.Prelude.{◌≡◌, ◌≤◌, IfSome, IfNone, OnOk, length, true, false};
 ghost use Rattle.std.specs.List.{AllByRecursion};
-ghost use Rattle.file_format.specs.Kinds.{optional};
 ghost use Rattle.file_format.specs.Readers.{put_all};
 ghost use Rattle.file_format.specs.Reading.{Takes};
-ghost use Rattle.snap_devices.specs.Queues.{are_few, collect, held, part, parts, queue};
-ghost use Rattle.snap_devices.specs.Queues.{stage_code, walk, walk_stage};
+ghost use Rattle.snap_devices.specs.Queues.{are_few, collect, held, maybe_queue, maybe_walk, part, parts, piece, queue};
+ghost use Rattle.snap_devices.specs.Queues.{stage_code, table, walk, walk_stage};
 
+use crate::mark::{accepted_at, accepted_code};
 use crate::saved::Saved;
 use dev_core::{Collect, Gather, Held};
 use file_format::{Input, Items, ReadError, Stored, write_count};
 use std::alloc::{AllocError, Global};
-use vm_types::ByteList;
-use vq_split::{ChainWalk, Part, PartList, Queue, Stage};
+use vm_types::{Accepted, ByteList, Piece};
+use vq_split::{ChainWalk, Part, PartList, Queue, Stage, Table};
 
-#[tactic(auto, unfolding(crate::specs::Queues::queue))]
-impl Stored for Saved<Queue> {
-    ghost format = { queue };
+/// Puts a queue at the end, behind what was accepted of it.
+#[tactic(auto, unfolding(crate::specs::Queues::queue, crate::specs::Queues::registers))]
+pub fn write_registers(it: &Queue, out: &mut Vec<u8>) -> Result<(), AllocError>
+    ensures fits { OnOk result ((queue it.now.accepted).Fits it.now) }
+    ensures bytes { OnOk result (out.new.items ≡ (queue it.now.accepted).puts it.now out.old.items) }
+{
+    it.descriptors.write(out)?;
+    it.available.write(out)?;
+    it.used.write(out)?;
+    it.size.write(out)?;
+    it.pages.write(out)?;
+    Ok(())
+}
 
-    fn write(&self, out: &mut Vec<u8>) -> Result<(), AllocError> {
-        self.value.descriptors.write(out)?;
-        self.value.available.write(out)?;
-        self.value.used.write(out)?;
-        self.value.size.write(out)?;
-        self.value.pages.write(out)?;
-        Ok(())
+/// Takes a queue from the front, of which these were accepted.
+#[tactic(auto, unfolding(crate::specs::Queues::queue, crate::specs::Queues::registers))]
+pub fn read_registers(
+    alloc: Global,
+    accepted: Accepted,
+    input: &mut Input,
+) -> Result<Queue, ReadError>
+    ensures { Takes (queue accepted) input.old input.new result }
+{
+    let (descriptors, (available, (used, (size, pages)))) = Stored::read(alloc, input)?;
+    Ok(Queue {
+        descriptors,
+        available,
+        used,
+        size,
+        pages,
+        accepted,
+    })
+}
+
+/// Puts a queue, if there is one, at the end.
+#[tactic(auto, unfolding(crate::specs::Queues::maybe_queue, crate::specs::Marks::maybe, file_format::specs::Kinds::byte), using(crate::specs::Marks::at_code))]
+pub fn write_queue(it: Option<Queue>, out: &mut Vec<u8>) -> Result<(), AllocError>
+    ensures fits { OnOk result (maybe_queue.Fits it) }
+    ensures bytes { OnOk result (out.new.items ≡ maybe_queue.puts it out.old.items) }
+{
+    match it {
+        Some(queue) => {
+            (1 + accepted_code(queue.accepted)).write(out)?;
+            write_registers(&queue, out)?;
+        }
+        None => 0u8.write(out)?,
     }
+    Ok(())
+}
 
-    fn read(alloc: Global, input: &mut Input) -> Result<Saved<Queue>, ReadError> {
-        let (descriptors, (available, (used, (size, pages)))) = Stored::read(alloc, input)?;
-        Ok(Saved {
-            value: Queue {
-                descriptors,
-                available,
-                used,
-                size,
-                pages,
-            },
-        })
+/// Takes it from the front.
+#[tactic(auto, unfolding(crate::specs::Queues::maybe_queue, crate::specs::Marks::maybe, file_format::specs::Kinds::byte))]
+pub fn read_queue(alloc: Global, input: &mut Input) -> Result<Option<Queue>, ReadError>
+    ensures { Takes maybe_queue input.old input.new result }
+{
+    let code = u8::read(alloc, input)?;
+    if code == 0 {
+        return Ok(None);
     }
+    let Some(accepted) = accepted_at(code - 1) else {
+        return Err(ReadError::Bad);
+    };
+    let queue = read_registers(alloc, accepted, input)?;
+    Ok(Some(queue))
 }
 
 #[tactic(auto, unfolding(crate::specs::Queues::part))]
@@ -132,6 +171,29 @@ pub(crate) fn read_held(alloc: Global, input: &mut Input) -> Result<Held, ReadEr
     }
 }
 
+#[tactic(auto, unfolding(crate::specs::Queues::piece, file_format::specs::Kinds::byte_list))]
+pub(crate) fn write_piece(bytes: &[u8], out: &mut Vec<u8>) -> Result<(), AllocError>
+    requires { length bytes.now ≤ 64 }
+    ensures fits { OnOk result (piece.Fits bytes.now) }
+    ensures bytes { OnOk result (out.new.items ≡ piece.puts bytes.now out.old.items) }
+{
+    write_count(bytes.len(), out)?;
+    out.extend_from_slice(bytes)?;
+    Ok(())
+}
+
+#[tactic(auto, unfolding(crate::specs::Queues::piece))]
+pub(crate) fn read_piece(alloc: Global, input: &mut Input) -> Result<Piece, ReadError>
+    ensures { Takes piece input.old input.new result }
+{
+    let bytes: ByteList = Stored::read(alloc, input)?;
+    if bytes.as_slice().len() <= 64 {
+        Ok(Piece::from_slice(bytes.as_slice()))
+    } else {
+        Err(ReadError::Bad)
+    }
+}
+
 /// Puts the parts that are still read and the bytes that are held at the end.
 #[tactic(auto, unfolding(crate::specs::Queues::collect))]
 pub fn write_collect(from: &Collect, out: &mut Vec<u8>) -> Result<(), AllocError>
@@ -156,6 +218,24 @@ pub fn read_collect(alloc: Global, input: &mut Input) -> Result<Collect, ReadErr
     })
 }
 
+#[tactic(auto, unfolding(crate::specs::Queues::table))]
+impl Stored for Saved<Table> {
+    ghost format = { table };
+
+    fn write(&self, out: &mut Vec<u8>) -> Result<(), AllocError> {
+        self.value.at.write(out)?;
+        self.value.count.write(out)?;
+        Ok(())
+    }
+
+    fn read(alloc: Global, input: &mut Input) -> Result<Saved<Table>, ReadError> {
+        let (at, count) = Stored::read(alloc, input)?;
+        Ok(Saved {
+            value: Table { at, count },
+        })
+    }
+}
+
 fn stage_code(stage: Stage) -> u8
     ensures { result ≡ stage_code stage }
 {
@@ -163,6 +243,10 @@ fn stage_code(stage: Stage) -> u8
         Stage::Index => 0,
         Stage::Ring => 1,
         Stage::Link { .. } => 2,
+        Stage::AvailEvent => 3,
+        Stage::IndexAgain => 4,
+        Stage::Entry { .. } => 5,
+        Stage::EntryRest { .. } => 6,
     }
 }
 
@@ -173,10 +257,26 @@ impl Stored for Saved<Stage> {
     fn write(&self, out: &mut Vec<u8>) -> Result<(), AllocError> {
         stage_code(self.value).write(out)?;
         match self.value {
-            Stage::Index | Stage::Ring => {}
+            Stage::Index | Stage::Ring | Stage::AvailEvent | Stage::IndexAgain => {}
             Stage::Link { head, at } => {
                 head.write(out)?;
                 at.write(out)?;
+            }
+            Stage::Entry { head, table, at } => {
+                head.write(out)?;
+                Saved { value: table }.write(out)?;
+                at.write(out)?;
+            }
+            Stage::EntryRest {
+                head,
+                table,
+                at,
+                front,
+            } => {
+                head.write(out)?;
+                Saved { value: table }.write(out)?;
+                at.write(out)?;
+                write_piece(front.as_slice(), out)?;
             }
         }
         Ok(())
@@ -190,60 +290,76 @@ impl Stored for Saved<Stage> {
                 let (head, at) = Stored::read(alloc, input)?;
                 Stage::Link { head, at }
             }
+            3 => Stage::AvailEvent,
+            4 => Stage::IndexAgain,
+            5 => {
+                let (head, (table, at)): (u16, (Saved<Table>, u16)) = Stored::read(alloc, input)?;
+                Stage::Entry {
+                    head,
+                    table: table.value,
+                    at,
+                }
+            }
+            6 => {
+                let (head, (table, at)): (u16, (Saved<Table>, u16)) = Stored::read(alloc, input)?;
+                let front = read_piece(alloc, input)?;
+                Stage::EntryRest {
+                    head,
+                    table: table.value,
+                    at,
+                    front,
+                }
+            }
             _ => return Err(ReadError::Bad),
         };
         Ok(Saved { value })
     }
 }
 
-/// Puts a walk at the end.
+/// Puts a walk at the end, behind what was accepted of its queue.
 #[tactic(auto, unfolding(crate::specs::Queues::walk, crate::specs::Queues::walk_fields))]
 pub fn write_walk(it: &ChainWalk, out: &mut Vec<u8>) -> Result<(), AllocError>
-    ensures fits { OnOk result (walk.Fits it.now) }
-    ensures bytes { OnOk result (out.new.items ≡ walk.puts it.now out.old.items) }
+    ensures fits { OnOk result ((walk it.now.queue.accepted).Fits it.now) }
+    ensures bytes { OnOk result (out.new.items ≡ (walk it.now.queue.accepted).puts it.now out.old.items) }
 {
     it.wanting();
-    Saved { value: *it.queue() }.write(out)?;
+    write_registers(it.queue(), out)?;
     it.number().write(out)?;
     Saved { value: it.stage() }.write(out)?;
     write_parts(it.parts(), out)?;
     Ok(())
 }
 
-/// Takes a walk from the front.
+/// Takes a walk from the front, of whose queue these were accepted.
 #[tactic(auto, unfolding(crate::specs::Queues::walk, crate::specs::Queues::walk_fields))]
-pub fn read_walk(alloc: Global, input: &mut Input) -> Result<ChainWalk, ReadError>
-    ensures { Takes walk input.old input.new result }
+pub fn read_walk(
+    alloc: Global,
+    accepted: Accepted,
+    input: &mut Input,
+) -> Result<ChainWalk, ReadError>
+    ensures { Takes (walk accepted) input.old input.new result }
 {
-    let (queue, (next, stage)): (Saved<Queue>, (u16, Saved<Stage>)) = Stored::read(alloc, input)?;
+    let queue = read_registers(alloc, accepted, input)?;
+    let (next, stage): (u16, Saved<Stage>) = Stored::read(alloc, input)?;
     let parts = read_parts(alloc, input)?;
-    match ChainWalk::from_parts(queue.value, next, stage.value, parts) {
+    match ChainWalk::from_parts(queue, next, stage.value, parts) {
         Some(walk) => Ok(walk),
         None => Err(ReadError::Bad),
     }
 }
 
-impl Stored for Saved<ChainWalk> {
-    ghost format = { walk };
-
-    fn write(&self, out: &mut Vec<u8>) -> Result<(), AllocError> {
-        write_walk(&self.value, out)?;
-        Ok(())
-    }
-
-    fn read(alloc: Global, input: &mut Input) -> Result<Saved<ChainWalk>, ReadError> {
-        let value = read_walk(alloc, input)?;
-        Ok(Saved { value })
-    }
-}
-
 /// Takes the walk that is begun, if there is one, from the front.
+#[tactic(auto, unfolding(crate::specs::Queues::maybe_walk, crate::specs::Marks::maybe, file_format::specs::Kinds::byte))]
 pub fn read_begun(alloc: Global, input: &mut Input) -> Result<Option<ChainWalk>, ReadError>
-    ensures { Takes (optional walk) input.old input.new result }
+    ensures { Takes maybe_walk input.old input.new result }
 {
-    let begun: Option<Saved<ChainWalk>> = Stored::read(alloc, input)?;
-    match begun {
-        Some(walk) => Ok(Some(walk.value)),
-        None => Ok(None),
+    let code = u8::read(alloc, input)?;
+    if code == 0 {
+        return Ok(None);
     }
+    let Some(accepted) = accepted_at(code - 1) else {
+        return Err(ReadError::Bad);
+    };
+    let walk = read_walk(alloc, accepted, input)?;
+    Ok(Some(walk))
 }

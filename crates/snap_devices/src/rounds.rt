@@ -1,23 +1,15 @@
 // The rounds of a device with queues.
 ghost use Rattle.std.specs.Prelude.{◌≡◌, OnOk};
 ghost use Rattle.file_format.specs.Reading.{Takes};
-ghost use Rattle.snap_devices.specs.Rounds.{lane, next_code, next_due, rounds, which, which_code};
+ghost use Rattle.snap_devices.specs.Rounds.{lane, next_code, next_due, rounds, which};
 
-use crate::limits::{read_queue, read_waiting, write_queue, write_waiting};
+use crate::limits::{read_waiting, write_waiting};
+use crate::mark::which_code;
+use crate::queue::{read_queue, write_queue};
 use crate::saved::Saved;
 use file_format::{Input, ReadError, Stored};
 use queue_device::{Due, Lane, Rounds, Which};
 use std::alloc::{AllocError, Global};
-
-fn which_code(which: Which) -> u8
-    ensures { result ≡ which_code which }
-{
-    match which {
-        Which::First => 0,
-        Which::Second => 1,
-        Which::Third => 2,
-    }
-}
 
 #[tactic(auto, unfolding(crate::specs::Rounds::which, file_format::specs::Kinds::byte))]
 impl Stored for Saved<Which> {

@@ -6,9 +6,11 @@ ghost use Rattle.vsock_device.specs.Reset.{is_unconnected};
 ghost use Rattle.snap_devices.specs.Vsocks.{vsock_data, fetching, hand_code, head, header, in_hand, operation, packet, stage, stage_code, vsock};
 ghost use Rattle.snap_devices.specs.Vsocks.{vsock_fields};
 
-use crate::net::{read_piece, write_piece};
 use crate::place::{read_place, write_place};
-use crate::queue::{read_collect, read_held, read_parts, write_collect, write_held, write_parts};
+use crate::queue::{
+    read_collect, read_held, read_parts, read_piece, write_collect, write_held, write_parts,
+    write_piece,
+};
 use crate::rounds::{read_rounds, write_rounds};
 use crate::saved::Saved;
 use dev_core::{Gather, Held};

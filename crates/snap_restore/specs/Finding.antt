@@ -40,7 +40,7 @@ said_length front = from_le_bytes w32 (take 4 (drop 12 front))
 
 -- no state file is longer, by the rules of a copy: most of it are reservations, one for a page and a hart at most
 abbrev pub most_bytes : ℕ
-most_bytes = 0x800_0000
+most_bytes = 0x2000_0000
 
 -- A state file of this size, by its first 32 bytes or all of a shorter one: the refusal that they tell, or its size, which
 -- is what the header says.

@@ -15,7 +15,7 @@ use std::alloc::Global;
 use vm_types::Identity;
 
 /// No state file is longer.
-const MOST_BYTES: u64 = 0x800_0000;
+const MOST_BYTES: u64 = 0x2000_0000;
 
 fn refused_by(why: DecodeError) -> FindError
     ensures { result ≡ refused_by why }

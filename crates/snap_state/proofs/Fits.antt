@@ -1,20 +1,23 @@
 -- What a copy keeps of a board, of reservations and of the rest, in the fields of a file.
-use Rattle.std.proofs.Common.{◌≡◌, ◌≤◌, ◌^◌, ℕ, true, arith, List, [], ◌∷◌}
-use Rattle.std.specs.List.{All, list_all}
+use Rattle.std.proofs.Common.{◌≡◌, ◌≤◌, ◌<◌, ◌^◌, ℕ, Bool, true, false, if◌then◌else◌, arith, List, [], ◌∷◌, length}
+use Rattle.std.specs.List.{All, list_all, list_any}
 use Rattle.std.proofs.lemmas.List.Elements.{All-cons, All-nil}
 use Rattle.std.proofs.lemmas.Bool.{and_parts, ltb-true}
 use Rattle.board_table.specs.Board.{Board}
 use Rattle.board_table.specs.Kept.{AreLines, IsKept, IsSmallState, IsWord}
 use Rattle.guest_memory.specs.Ram.{page_size}
+use Rattle.port_table.specs.declared.state.PortState.{PortState}
 use Rattle.file_format.specs.Kinds.{flag, number16, number64}
 use Rattle.file_format.proofs.Fitting.{every, fits16, fits32, fits64, fits_bytes, fits_flag, fits_list}
 use Rattle.snap_harts.specs.HartStates.{hart_state}
 use Rattle.snap_harts.proofs.Fits.{state_fits}
 use Rattle.snap_state.specs.declared.copy.Reservation.{Reservation}
 use Rattle.snap_state.specs.Boards.{board}
-use Rattle.snap_state.specs.Copies.{reservation}
+use Rattle.snap_state.specs.Copies.{reservation, section}
 use Rattle.snap_state.specs.Copy.{saved_board}
+use Rattle.snap_state.specs.Sections.{is_offering, offering, offering_bytes, offering_tag, sections_of}
 use Rattle.snap_state.specs.Valid.{is_reserved}
+use Rattle.snap_state.proofs.Sectioned.{offering_short}
 
 pub board_fits : (harts : ℕ) (b : Board) → harts ≤ 32 → IsKept harts b → board.Fits (saved_board b)
 unfolding board
@@ -57,3 +60,16 @@ reservations_fit pages harts [] some few are = All-nil reservation.Fits
 reservations_fit pages harts (r ∷ rs) some few are =
     let p = and_parts (is_reserved pages harts r) (list_all (is_reserved pages harts) rs) are in
     All-cons reservation.Fits r rs (reservation_fits pages harts r some few p.0) (reservations_fit pages harts rs some few p.1)
+
+-- ---- sections
+
+offering_fits : (ports : List PortState) → length ports < 2 ^ 31 → section.Fits (offering ports)
+unfolding section
+offering_fits ports few = (fits32 offering_tag (omega arith), fits_bytes (offering_bytes ports) (omega (arith, few, offering_short ports)))
+
+pub sections_fit : (ports : List PortState) → length ports < 2 ^ 31 → All section.Fits (sections_of ports)
+sections_fit ports few = by (list_any is_offering ports)
+  where
+    by : (there : Bool) → All section.Fits (if there then offering ports ∷ [] else [])
+    by true = All-cons section.Fits (offering ports) [] (offering_fits ports few) (All-nil section.Fits)
+    by false = All-nil section.Fits

@@ -1,9 +1,9 @@
--- A state file has at most 2^27 bytes, by the rules of a copy.
-use Rattle.std.proofs.Common.{◌≡◌, ℕ, ◌+◌, ◌*◌, ◌≤◌, ◌<◌, ◌^◌, Bool, true, false, ◌&&◌, ◌||◌, eqb, ltb, leb, if◌then◌else◌, List, [], ◌∷◌, ◌++◌, length, length-append, Option, Some, None, refl, ap, arith, codes}
+-- A state file has at most 2^29 bytes, by the rules of a copy.
+use Rattle.std.proofs.Common.{◌≡◌, ℕ, ◌+◌, ◌*◌, ◌≤◌, ◌<◌, ◌^◌, Bool, true, false, ◌&&◌, ◌||◌, eqb, ltb, leb, if◌then◌else◌, List, [], ◌∷◌, ◌++◌, length, length-append, Option, Some, None, refl, sym, ap, arith, subst, codes}
 use Rattle.std.proofs.lemmas.Bool.{and_parts, eqb-true, leb-true, ltb-true}
 use Rattle.std.proofs.lemmas.Option.{option_and_then_some}
 use Rattle.std.proofs.lemmas.Slice.Eq.{bytes_eq-Decides}
-use Rattle.std.specs.List.{list_all}
+use Rattle.std.specs.List.{list_all, list_any}
 use Rattle.std.specs.Str.{bytes_eq}
 use Rattle.vm_types.specs.declared.identity.Identity.{Identity}
 use Rattle.api_calls.specs.declared.call.CacheType.{CacheType}
@@ -25,6 +25,7 @@ use Rattle.file_format.specs.Kinds.{fixed, flag, number16, number64, text}
 use Rattle.file_format.specs.Identities.{identity}
 use Rattle.file_format.specs.Ends.{listed}
 use Rattle.file_format.specs.Whole.{counted}
+use Rattle.port_table.specs.declared.state.PortState.{PortState}
 use Rattle.snap_devices.specs.Ports.{port}
 use Rattle.snap_devices.specs.Devices.{device}
 use Rattle.snap_state.specs.declared.board.SavedBoard.{SavedBoard}
@@ -40,13 +41,15 @@ use Rattle.snap_state.specs.Drives as drives
 use Rattle.snap_state.specs.Interfaces as interfaces
 use Rattle.snap_state.specs.Limits as limits
 use Rattle.snap_state.specs.Mmds as mmds
+use Rattle.snap_state.specs.Sections.{are_sections, is_offering, offering, sections_of}
 use Rattle.file_format.specs.declared.version.Version.{Version}
 use Rattle.file_format.specs.declared.version.Version.TheVariants.{One, Two}
 use Rattle.snap_state.specs.Files as state
 use Rattle.snap_harts.specs.Harts.{hart}
 use Rattle.snap_harts.specs.HartStates.{hart_state}
-use Rattle.snap_state.specs.Valid.{are_drives, are_interfaces, are_paths, are_sections, has_devices, has_machine, has_room, is_balloon, is_before, is_board, is_drive, is_interface, is_machine, is_mmds, is_reserved, is_rising, is_source, is_valid, is_vsock, rises_from}
+use Rattle.snap_state.specs.Valid.{are_drives, are_interfaces, are_paths, has_devices, has_machine, has_room, is_balloon, is_before, is_board, is_drive, is_interface, is_machine, is_mmds, is_reserved, is_rising, is_source, is_valid, is_vsock, rises_from}
 use Rattle.snap_state.proofs.HasDevices.{has_parts, many_devices, many_ports}
+use Rattle.snap_state.proofs.Sectioned.{offering_short, section_most, sections_known}
 use Rattle.snap_state.proofs.Texts.{address_short, args_short, id_short, ids_few, mmds_parts, path_short}
 use Rattle.snap_state.proofs.Sizes.{device_within, hart_state_within, hart_within, port_within}
 use Rattle.file_format.proofs.Within.{Within, any_within, within16, within32, within64, flag_within, zeros_within, constant_within, just_within, pair_within, made_within, passing_within, optional_most, optional_within, total, total-pass, list_within, each_within, counted_within, listed_within, bytes_within, text_within}
@@ -186,21 +189,18 @@ reservation_within : Within copies.reservation.reads (λ _. 12)
 unfolding copies.reservation
 reservation_within = made_within _ _ (λ a. omega arith) (pair_within within32 (pair_within within32 within32))
 
-few_devices : Within copies.devices.reads (λ ds. 4 + 30644 * length ds)
+few_devices : Within copies.devices.reads (λ ds. 4 + 30722 * length ds)
 unfolding copies.devices
 few_devices =
-    passing_within _ (λ ds. 4 + 30644 * length ds) (λ v is. omega arith)
-    (each_within 30644 (listed device) (listed_within 30640 device device_within))
-
-abbrev section_most : Section → ℕ
-section_most s = 4 + (4 + length s.bytes)
+    passing_within _ (λ ds. 4 + 30722 * length ds) (λ v is. omega arith)
+    (each_within 30722 (listed device) (listed_within 30718 device device_within))
 
 abbrev copy_most : StateCopy → ℕ
 copy_most c =
     (configuration_most c.configuration + 13)
     + (board_most c.board
     + ((4 + 328 * length c.harts)
-    + ((4 + 153 * length c.ports) + ((4 + 30644 * length c.devices) + ((4 + 12 * length c.reservations) + (4 + total section_most c.sections))))))
+    + ((4 + 153 * length c.ports) + ((4 + 30722 * length c.devices) + ((4 + 12 * length c.reservations) + (4 + total section_most c.sections))))))
 
 section_within : Within copies.section.reads section_most
 unfolding copies.section
@@ -330,11 +330,11 @@ board_short harts b few is =
     let both = and_parts (eqb (length b.enables) harts) (eqb (length b.software) harts) deadlines.0 in
     omega (arith, few, leb-true _ _ console.1, eqb-true _ _ states.1, eqb-true _ _ deadlines.1, eqb-true _ _ both.0, eqb-true _ _ both.1)
 
-machine_small : (c : StateCopy) → has_machine c c.configuration.machine ≡ true → (c.configuration.machine.vcpu_count ≤ 32) × (c.pages ≤ 262144)
+machine_small : (c : StateCopy) → has_machine c c.configuration.machine ≡ true → (c.configuration.machine.vcpu_count ≤ 32) × (c.pages ≤ 1048576)
 machine_small c is =
     let m = c.configuration.machine in
     let both = and_parts (is_machine m) (eqb c.pages (256 * m.mem_size_mib)) (and_parts _ _ is).0 in
-    let most = and_parts _ (leb m.mem_size_mib 1024) both.0 in
+    let most = and_parts _ (leb m.mem_size_mib 4096) both.0 in
     let least = and_parts _ (leb 4 m.mem_size_mib) most.0 in
     let harts = and_parts _ (leb m.vcpu_count 32) least.0 in
     (leb-true _ _ harts.1, omega (arith, eqb-true _ _ both.1, leb-true _ _ most.1))
@@ -348,20 +348,28 @@ devices_few c is room =
     let devices = many_devices c has in
     (omega (arith, few, ports), omega (arith, few, devices), omega (arith, few))
 
--- ---- sections: none is known yet
+-- ---- sections
 
-no_sections : (sections : List Section) → are_sections sections ≡ true → total section_most sections ≡ 0
-no_sections [] is = refl
-no_sections (s ∷ sections) is = absurd cc
+sections_short : (ports : List PortState) → total section_most (sections_of ports) ≤ 12 + length ports
+sections_short ports = by (list_any is_offering ports)
+  where
+    by : (there : Bool) → total section_most (if there then offering ports ∷ [] else []) ≤ 12 + length ports
+    by true = omega (arith, offering_short ports)
+    by false = omega arith
+
+known_short : (ports : List PortState) (sections : List Section) → are_sections ports sections ≡ true
+    → total section_most sections ≤ 12 + length ports
+known_short ports sections is =
+    subst (λ (s : List Section). total section_most s ≤ 12 + length ports) (sym (sections_known ports sections is)) (sections_short ports)
 
 -- ---- all of it
 
-copy_short : (c : StateCopy) → is_valid c ≡ true → copy_most c ≤ 134217600
+copy_short : (c : StateCopy) → is_valid c ≡ true → copy_most c ≤ 536870784
 unfolding is_valid
 copy_short c is =
     let harts_there = c.configuration.machine.vcpu_count in
     let timely = and_parts _ (list_all (is_timely c.guest_time) c.devices) is in
-    let known = and_parts _ (are_sections c.sections) timely.0 in
+    let known = and_parts _ (are_sections c.ports c.sections) timely.0 in
     let rising = and_parts _ (is_rising c.reservations) known.0 in
     let reserved = and_parts _ (list_all (is_reserved c.pages harts_there) c.reservations) rising.0 in
     let devices = and_parts _ (has_devices c) reserved.0 in
@@ -393,7 +401,7 @@ copy_short c is =
       few.2,
       board_short harts_there c.board small.0 boards.1,
       eqb-true _ _ count.1,
-      no_sections c.sections known.1,
+      known_short c.ports c.sections known.1,
       few_reservations c.pages harts_there small.0 c.reservations reserved.1 rising.1,
     )
 
@@ -407,7 +415,7 @@ body_short v c fits valid =
 
 -- what is behind gate and magic of a file that is accepted
 pub accepted_short : (v : Version) (rest : List ℕ) (read : (ℕ × (Identity × StateCopy)) × List ℕ) → (state.contents v).reads rest ≡ Some read
-    → state.is_accepted (length rest) (length read.1) read.0.0 read.0.1.0 read.0.1.1 ≡ true → length rest ≤ 134217620
+    → state.is_accepted (length rest) (length read.1) read.0.0 read.0.1.0 read.0.1.1 ≡ true → length rest ≤ 536870804
 accepted_short v rest read reads is =
     let valid = and_parts _ (is_valid read.0.1.1) is in
     let counted = and_parts (eqb (length read.1) 0) (eqb (read.0.0 + 20) (length rest)) (and_parts _ _ valid.0).0 in

@@ -11,8 +11,9 @@ use Rattle.guest_devices.specs.declared.device.Device.{Device}
 use Rattle.guest_devices.specs.Kept.{device_pages, device_port, is_kept}
 use Rattle.guest_devices.specs.Moments.{is_timely}
 use Rattle.snap_state.specs.declared.copy.StateCopy.{StateCopy}
+use Rattle.snap_state.specs.Sections.{are_sections}
 use Rattle.snap_state.proofs.HasDevices.{has_parts, many_devices, many_ports}
-use Rattle.snap_state.specs.Valid.{are_devices, are_drives, are_interfaces, are_sections, has_devices, has_machine, has_room, is_balloon, is_board, is_device, is_hart, is_machine, is_mmds, is_reserved, is_rising, is_source, is_valid, is_vsock}
+use Rattle.snap_state.specs.Valid.{are_devices, are_drives, are_interfaces, has_devices, has_machine, has_room, is_balloon, is_board, is_device, is_hart, is_machine, is_mmds, is_reserved, is_rising, is_source, is_valid, is_vsock}
 
 pub record Rules (c : StateCopy) : Type 0 where
   pub source : is_source c.configuration.boot_source ≡ true
@@ -29,7 +30,7 @@ pub record Rules (c : StateCopy) : Type 0 where
   pub devices : has_devices c ≡ true
   pub reservations : list_all (is_reserved c.pages c.configuration.machine.vcpu_count) c.reservations ≡ true
   pub rising : is_rising c.reservations ≡ true
-  pub sections : are_sections c.sections ≡ true
+  pub sections : are_sections c.ports c.sections ≡ true
   pub timely : list_all (is_timely c.guest_time) c.devices ≡ true
 
 pub rules_of : (c : StateCopy) → is_valid c ≡ true → Rules c
@@ -37,7 +38,7 @@ unfolding is_valid
 rules_of c valid =
     let m = c.configuration.machine in
     let p15 = and_parts _ (list_all (is_timely c.guest_time) c.devices) valid in
-    let p14 = and_parts _ (are_sections c.sections) p15.0 in
+    let p14 = and_parts _ (are_sections c.ports c.sections) p15.0 in
     let p13 = and_parts _ (is_rising c.reservations) p14.0 in
     let p12 = and_parts _ (list_all (is_reserved c.pages m.vcpu_count) c.reservations) p13.0 in
     let p11 = and_parts _ (has_devices c) p12.0 in
@@ -102,17 +103,17 @@ few_harts c r =
     let m = c.configuration.machine in
     let fits = and_parts _ (if c.track_dirty_pages then m.track_dirty_pages else not m.track_dirty_pages) r.machine in
     let sized = and_parts (is_machine m) (c.pages == 256 * m.mem_size_mib) fits.0 in
-    let large = and_parts _ (nat_le m.mem_size_mib 1024) sized.0 in
+    let large = and_parts _ (nat_le m.mem_size_mib 4096) sized.0 in
     let some = and_parts _ (nat_le 4 m.mem_size_mib) large.0 in
     leb-true _ _ (and_parts (nat_le 1 m.vcpu_count) (nat_le m.vcpu_count hart_limit) some.0).1
 
-pub few_pages : (c : StateCopy) → Rules c → c.pages ≤ 262144
+pub few_pages : (c : StateCopy) → Rules c → c.pages ≤ 2 ^ 20
 few_pages c r =
     let m = c.configuration.machine in
     let fits = and_parts _ (if c.track_dirty_pages then m.track_dirty_pages else not m.track_dirty_pages) r.machine in
     let sized = and_parts (is_machine m) (c.pages == 256 * m.mem_size_mib) fits.0 in
-    let large = and_parts _ (nat_le m.mem_size_mib 1024) sized.0 in
-    omega (arith, leb-true m.mem_size_mib 1024 large.1, eqb-true c.pages (256 * m.mem_size_mib) sized.1)
+    let large = and_parts _ (nat_le m.mem_size_mib 4096) sized.0 in
+    omega (arith, leb-true m.mem_size_mib 4096 large.1, eqb-true c.pages (256 * m.mem_size_mib) sized.1)
 
 -- ---- ports and devices
 

@@ -1,11 +1,18 @@
 -- How many bytes each part of a state file has at most.
-use Rattle.std.proofs.Common.{ℕ, zero, suc, List, arith, length, replicate}
+use Rattle.std.proofs.Common.{◌≡◌, ℕ, zero, suc, ◌+◌, List, Option, Some, None, arith, length, replicate}
 use Rattle.std.specs.Prelude.{nat_le}
 use Rattle.std.proofs.lemmas.Bool.{and_parts, leb-true}
+use Rattle.vm_types.specs.declared.port_look.Accepted.{Accepted}
+use Rattle.file_format.specs.Format.{Format}
 use Rattle.file_format.specs.Kinds.{byte, number64, optional}
+use Rattle.vq_split.specs.Walking.{walk_of}
+use Rattle.dev_core.specs.Looks.{no_queue}
+use Rattle.queue_device.specs.declared.lanes.Which.{Which}
 use Rattle.net_device.specs.Frames.{is_headed}
+use Rattle.snap_devices.specs.declared.file.FileDue.{FileDue}
 use Rattle.snap_devices.specs.Balloons as balloons
 use Rattle.snap_devices.specs.Limits as limits
+use Rattle.snap_devices.specs.Marks as marks
 use Rattle.snap_devices.specs.Nets as nets
 use Rattle.snap_devices.specs.Places as places
 use Rattle.snap_devices.specs.Queues as queues
@@ -21,17 +28,51 @@ use Rattle.snap_harts.specs.Harts as harts
 use Rattle.file_format.proofs.Within.{Within, WithinList, chosen_list_within, ended_within, no_list_within, passing_list_within, standing_list_within, whole_within, wider_within}
 use Rattle.file_format.proofs.Within.{just_within, any_within, byte_within, within16, within32, within64, flag_within, constant_within, nothing_within, pair_within, then_within, made_within, passing_within, times_within, list_within, bytes_within, total-const}
 
+-- ---- what stands behind what says which features were accepted
+
+module _ {X : Type 0} (of : Accepted → Format X) (marked : X → Accepted) (other : X)
+    (is : (a : Accepted) (x : X) → (of a).Fits x → a ≡ marked x) (most : ℕ) (within : (a : Accepted) → Within (of a).reads (λ _. most)) where
+  maybe_by_within : (o : Option Accepted) → Within (marks.maybe_by of marked other is o).reads (λ _. most)
+  maybe_by_within None = nothing_within most
+  maybe_by_within (Some a) = made_within _ (λ _. most) (λ v. omega arith) (within a)
+
+  maybes_within : (code : ℕ) → Within (marks.maybes of marked other is code).reads (λ _. most)
+  maybes_within zero = just_within _ most
+  maybes_within (suc n) = maybe_by_within (marks.accepted_at n)
+
+  maybe_within : Within (marks.maybe of marked other is).reads (λ _. 1 + most)
+  unfolding marks.maybe
+  maybe_within = then_within byte_within maybes_within
+
+module _ {X : Type 0} (of : Which → Accepted → Format X) (key : X → Which) (marked : X → Accepted)
+    (is : (k : Which) (a : Accepted) (x : X) → (of k a).Fits x → (k ≡ key x) × (a ≡ marked x)) (most : ℕ)
+    (within : (k : Which) (a : Accepted) → Within (of k a).reads (λ _. most)) where
+  numbered_by_within : (o : Option (Which × Accepted))
+      → Within (marks.marked_by marks.which_code marks.which_at marks.which_at-is of key marked is o).reads (λ _. most)
+  numbered_by_within None = nothing_within most
+  numbered_by_within (Some (k, a)) = within k a
+
+  numbered_within : Within (marks.of_queue of key marked is).reads (λ _. 1 + most)
+  unfolding marks.marked
+  numbered_within = then_within byte_within (λ n. numbered_by_within (marks.queue_at n))
+
 -- ---- a queue, parts and a walk
 
 part_within : Within queues.part.reads (λ _. 13)
 unfolding queues.part
 part_within = made_within _ _ (λ a. omega arith) (pair_within within64 (pair_within within32 flag_within))
 
-queue_within : Within queues.queue.reads (λ _. 30)
+registers_within : Within queues.registers.reads (λ _. 30)
+unfolding queues.registers
+registers_within = pair_within within64 (pair_within within64 (pair_within within64 (pair_within within16 within32)))
+
+queue_within : (a : Accepted) → Within (queues.queue a).reads (λ _. 30)
 unfolding queues.queue
-queue_within =
-    made_within _ _ (λ a. omega arith)
-    (pair_within within64 (pair_within within64 (pair_within within64 (pair_within within16 within32))))
+queue_within a = made_within _ _ (λ v. omega arith) registers_within
+
+maybe_queue_within : Within queues.maybe_queue.reads (λ _. 31)
+unfolding queues.maybe_queue
+maybe_queue_within = maybe_within queues.queue (λ q. q.accepted) (no_queue 0) queues.queue_marks 30 queue_within
 
 parts_within : Within queues.parts.reads (λ _. 3332)
 unfolding queues.parts
@@ -46,22 +87,40 @@ collect_within : Within queues.collect.reads (λ _. 3464)
 unfolding queues.collect
 collect_within = made_within _ _ (λ a. omega arith) (pair_within parts_within held_within)
 
-stages_within : (code : ℕ) → Within (queues.stages code).reads (λ _. 4)
-stages_within zero = just_within _ 4
-stages_within (suc zero) = just_within _ 4
-stages_within (suc (suc zero)) = made_within _ _ (λ a. omega arith) (pair_within within16 within16)
-stages_within (suc (suc (suc n))) = nothing_within 4
+piece_within : Within queues.piece.reads (λ _. 68)
+unfolding queues.piece
+piece_within = passing_within _ (λ _. 68) (λ v is. omega (arith, leb-true _ _ is)) bytes_within
 
-stage_within : Within queues.walk_stage.reads (λ _. 5)
+table_within : Within queues.table.reads (λ _. 10)
+unfolding queues.table
+table_within = made_within _ _ (λ a. omega arith) (pair_within within64 within16)
+
+stages_within : (code : ℕ) → Within (queues.stages code).reads (λ _. 82)
+stages_within zero = just_within _ 82
+stages_within (suc zero) = just_within _ 82
+stages_within (suc (suc zero)) = made_within _ _ (λ a. omega arith) (pair_within within16 within16)
+stages_within (suc (suc (suc zero))) = just_within _ 82
+stages_within (suc (suc (suc (suc zero)))) = just_within _ 82
+stages_within (suc (suc (suc (suc (suc zero))))) =
+    made_within _ _ (λ a. omega arith) (pair_within within16 (pair_within table_within within16))
+stages_within (suc (suc (suc (suc (suc (suc zero)))))) =
+    made_within _ _ (λ a. omega arith) (pair_within within16 (pair_within table_within (pair_within within16 piece_within)))
+stages_within (suc (suc (suc (suc (suc (suc (suc n))))))) = nothing_within 82
+
+stage_within : Within queues.walk_stage.reads (λ _. 83)
 unfolding queues.walk_stage
 stage_within = then_within byte_within stages_within
 
-walk_within : Within queues.walk.reads (λ _. 3369)
+walk_within : (a : Accepted) → Within (queues.walk a).reads (λ _. 3447)
 unfolding queues.walk queues.walk_fields
-walk_within =
+walk_within a =
     passing_within _ _ (λ v is. omega arith)
-    (made_within _ (λ _. 3369) (λ a. omega arith)
-    (pair_within queue_within (pair_within within16 (pair_within stage_within parts_within))))
+    (made_within _ (λ _. 3447) (λ v. omega arith)
+    (pair_within (queue_within a) (pair_within within16 (pair_within stage_within parts_within))))
+
+maybe_walk_within : Within queues.maybe_walk.reads (λ _. 3448)
+unfolding queues.maybe_walk
+maybe_walk_within = maybe_within queues.walk (λ w. w.queue.accepted) (walk_of (no_queue 0) 0) queues.walk_marks 3447 walk_within
 
 -- ---- where a device is
 
@@ -80,7 +139,8 @@ returns_within (suc zero) = just_within _ 0
 returns_within (suc (suc zero)) = just_within _ 0
 returns_within (suc (suc (suc zero))) = just_within _ 0
 returns_within (suc (suc (suc (suc zero)))) = just_within _ 0
-returns_within (suc (suc (suc (suc (suc n))))) = nothing_within 0
+returns_within (suc (suc (suc (suc (suc zero))))) = just_within _ 0
+returns_within (suc (suc (suc (suc (suc (suc n)))))) = nothing_within 0
 
 return_within : Within phases.return_stage.reads (λ _. 1)
 unfolding phases.return_stage
@@ -118,30 +178,29 @@ phase_within = then_within byte_within phases_within
 
 -- ---- a device
 
-dues_within : (code : ℕ) → Within (blocks.dues code).reads (λ _. 0)
-dues_within zero = just_within _ 0
-dues_within (suc zero) = just_within _ 0
-dues_within (suc (suc zero)) = just_within _ 0
-dues_within (suc (suc (suc n))) = nothing_within 0
+due_by_within : (o : Option (FileDue × Accepted))
+    → Within (marks.marked_by blocks.due_code blocks.due_at blocks.due_at-is blocks.due_by (λ x. x.0) (λ x. x.1) blocks.due_marks o).reads (λ _. 0)
+due_by_within None = nothing_within 0
+due_by_within (Some (d, a)) = just_within _ 0
 
 due_within : Within blocks.due.reads (λ _. 1)
-unfolding blocks.due
-due_within = then_within byte_within dues_within
+unfolding blocks.due marks.marked
+due_within = then_within byte_within (λ n. due_by_within (blocks.due_mark_at n))
 
 data_within : Within blocks.block_data.reads (λ _. 67)
 unfolding blocks.block_data
 data_within =
     made_within _ _ (λ a. omega arith)
     (pair_within
-    (pair_within within64 (pair_within queue_within (pair_within (times_within 20 1 byte byte_within) (pair_within within16 within16))))
+    (pair_within within64 (pair_within registers_within (pair_within (times_within 20 1 byte byte_within) (pair_within within16 within16))))
     (pair_within byte_within (pair_within flag_within (pair_within flag_within (pair_within flag_within due_within)))))
 
-fields_within : Within blocks.block_fields.reads (λ _. 10269)
+fields_within : Within blocks.block_fields.reads (λ _. 10347)
 unfolding blocks.block_fields
 fields_within =
-    made_within _ (λ _. 10269) (λ a. omega arith)
+    made_within _ (λ _. 10347) (λ a. omega arith)
     (pair_within data_within
-    (pair_within phase_within (pair_within (any_within 3369 queues.walk walk_within) (pair_within collect_within parts_within))))
+    (pair_within phase_within (pair_within maybe_walk_within (pair_within collect_within parts_within))))
 
 -- ---- what may be lacking behind it
 
@@ -162,24 +221,28 @@ gate_within =
     made_within _ _ (λ a. omega arith)
     (pair_within (any_within 48 limits.bucket bucket_within) (any_within 48 limits.bucket bucket_within))
 
-chain_within : Within limits.chain.reads (λ _. 6828)
+chain_within : (a : Accepted) → Within (limits.chain a).reads (λ _. 6828)
 unfolding limits.chain limits.chain_fields
-chain_within =
+chain_within a =
     passing_within _ (λ _. 6828) (λ v is. omega arith)
-    (made_within _ (λ _. 6828) (λ a. omega arith)
-    (pair_within queue_within (pair_within within16 (pair_within parts_within (pair_within parts_within held_within)))))
+    (made_within _ (λ _. 6828) (λ v. omega arith)
+    (pair_within (queue_within a) (pair_within within16 (pair_within parts_within (pair_within parts_within held_within)))))
+
+maybe_chain_within : Within limits.maybe_chain.reads (λ _. 6829)
+unfolding limits.maybe_chain
+maybe_chain_within = maybe_within limits.chain (λ c. c.queue.accepted) limits.no_chain limits.chain_marks 6828 chain_within
 
 more_within : Within limits.more.reads (λ _. 6958)
 unfolding limits.more
 more_within =
     made_within _ _ (λ a. omega arith)
-    (pair_within gate_within (pair_within (any_within 6828 limits.chain chain_within) (any_within 30 queues.queue queue_within)))
+    (pair_within gate_within (pair_within maybe_chain_within maybe_queue_within))
 
-block_within : WithinList blocks.block.reads 17227
+block_within : WithinList blocks.block.reads 17305
 unfolding blocks.block
 block_within =
-    standing_list_within _ 17227
-    (passing_list_within _ 17227 (ended_within blocks.block_fields limits.end_of_device 10269 6958 fields_within more_within))
+    standing_list_within _ 17305
+    (passing_list_within _ 17305 (ended_within blocks.block_fields limits.end_of_device 10347 6958 fields_within more_within))
 
 -- ---- the rounds of a network device, a vsock device or a balloon, and where it is
 
@@ -209,7 +272,7 @@ unfolding rounds.lane
 lane_within =
     made_within _ (λ _. 6865) (λ a. omega arith)
     (pair_within (pair_within within16 (pair_within within16 flag_within))
-    (pair_within (any_within 30 queues.queue queue_within) (any_within 6828 limits.chain chain_within)))
+    (pair_within maybe_queue_within maybe_chain_within))
 
 rounds_within : Within rounds.rounds.reads (λ _. 20603)
 unfolding rounds.rounds
@@ -218,25 +281,37 @@ rounds_within =
     (pair_within (pair_within within32 (pair_within byte_within (pair_within next_within flag_within)))
     (pair_within lane_within (pair_within lane_within lane_within)))
 
-hand_within : Within places.hand.reads (λ _. 33)
-unfolding places.hand places.hand_fields
-hand_within =
-    passing_within _ (λ _. 33) (λ v is. omega arith)
-    (made_within _ (λ _. 33) (λ a. omega arith) (pair_within which_within (pair_within queue_within within16)))
+hand_by_within : (k : Which) (a : Accepted) → Within (places.hand_by k a).reads (λ _. 32)
+unfolding places.hand_by places.hand_fields
+hand_by_within k a =
+    passing_within _ (λ _. 32) (λ v is. omega arith)
+    (made_within _ (λ _. 32) (λ v. omega arith) (pair_within (queue_within a) within16))
 
-device_places_within : (code : ℕ) → Within (places.places code).reads (λ _. 3370)
-device_places_within zero = just_within _ 3370
-device_places_within (suc zero) = just_within _ 3370
-device_places_within (suc (suc zero)) = made_within _ _ (λ a. omega arith) (pair_within which_within walk_within)
+hand_within : Within places.hand.reads (λ _. 33)
+unfolding places.hand
+hand_within = numbered_within places.hand_by (λ c. c.which) (λ c. c.queue.accepted) places.hand_marks 32 hand_by_within
+
+walked_by_within : (k : Which) (a : Accepted) → Within (places.walked_by k a).reads (λ _. 3447)
+unfolding places.walked_by
+walked_by_within k a = made_within _ (λ _. 3447) (λ v. omega arith) (walk_within a)
+
+walked_within : Within places.walked.reads (λ _. 3448)
+unfolding places.walked
+walked_within = numbered_within places.walked_by (λ v. v.0) (λ v. v.1.queue.accepted) places.walked_marks 3447 walked_by_within
+
+device_places_within : (code : ℕ) → Within (places.places code).reads (λ _. 3448)
+device_places_within zero = just_within _ 3448
+device_places_within (suc zero) = just_within _ 3448
+device_places_within (suc (suc zero)) = made_within _ _ (λ a. omega arith) walked_within
 device_places_within (suc (suc (suc zero))) = made_within _ _ (λ a. omega arith) hand_within
 device_places_within (suc (suc (suc (suc zero)))) = made_within _ _ (λ a. omega arith) hand_within
 device_places_within (suc (suc (suc (suc (suc zero))))) =
     made_within _ _ (λ a. omega arith) (pair_within within32 (pair_within return_within hand_within))
 device_places_within (suc (suc (suc (suc (suc (suc zero)))))) =
     made_within _ _ (λ a. omega arith) (pair_within which_within break_within)
-device_places_within (suc (suc (suc (suc (suc (suc (suc n))))))) = nothing_within 3370
+device_places_within (suc (suc (suc (suc (suc (suc (suc n))))))) = nothing_within 3448
 
-device_place_within : Within places.place.reads (λ _. 3371)
+device_place_within : Within places.place.reads (λ _. 3449)
 unfolding places.place
 device_place_within = then_within byte_within device_places_within
 
@@ -247,10 +322,6 @@ unfolding nets.text
 text_within =
     passing_within _ (λ _. 1530) (λ (v : List ℕ) is.
     omega (arith, leb-true (length v) 1526 (and_parts (nat_le (length v) 1526) (is_headed v) is).0)) bytes_within
-
-piece_within : Within nets.piece.reads (λ _. 68)
-unfolding nets.piece
-piece_within = passing_within _ (λ _. 68) (λ v is. omega (arith, leb-true _ _ is)) bytes_within
 
 net_stages_within : (code : ℕ) → Within (nets.stages code).reads (λ _. 3408)
 net_stages_within zero = just_within _ 3408
@@ -273,11 +344,11 @@ net_kind_within =
     (made_within _ (λ _. 6665) (λ a. omega arith)
     (pair_within text_within (pair_within gate_within (pair_within gate_within (pair_within net_stage_within text_within)))))
 
-net_within : Within nets.net.reads (λ _. 30639)
+net_within : Within nets.net.reads (λ _. 30717)
 unfolding nets.net nets.net_fields
 net_within =
-    passing_within _ (λ _. 30639) (λ v is. omega arith)
-    (made_within _ (λ _. 30639) (λ a. omega arith)
+    passing_within _ (λ _. 30717) (λ v is. omega arith)
+    (made_within _ (λ _. 30717) (λ a. omega arith)
     (pair_within rounds_within (pair_within device_place_within net_kind_within)))
 
 -- ---- a balloon
@@ -306,11 +377,11 @@ balloon_kind_within =
     (made_within _ (λ _. 3655) (λ a. omega arith)
     (pair_within within16 (pair_within within64 (pair_within statistics_within balloon_stage_within))))
 
-balloon_within : Within balloons.balloon.reads (λ _. 27629)
+balloon_within : Within balloons.balloon.reads (λ _. 27707)
 unfolding balloons.balloon balloons.balloon_fields
 balloon_within =
-    passing_within _ (λ _. 27629) (λ v is. omega arith)
-    (made_within _ (λ _. 27629) (λ a. omega arith)
+    passing_within _ (λ _. 27707) (λ v is. omega arith)
+    (made_within _ (λ _. 27707) (λ a. omega arith)
     (pair_within rounds_within (pair_within device_place_within balloon_kind_within)))
 
 -- ---- a vsock device
@@ -389,29 +460,29 @@ vsock_stage_within : Within vsocks.stage.reads (λ _. 3473)
 unfolding vsocks.stage
 vsock_stage_within = then_within byte_within vsock_stages_within
 
-vsock_within : Within vsocks.vsock.reads (λ _. 27556)
+vsock_within : Within vsocks.vsock.reads (λ _. 27634)
 unfolding vsocks.vsock vsocks.vsock_fields
 vsock_within =
-    passing_within _ (λ _. 27556) (λ v is. omega arith)
-    (made_within _ (λ _. 27556) (λ a. omega arith)
+    passing_within _ (λ _. 27634) (λ v is. omega arith)
+    (made_within _ (λ _. 27634) (λ a. omega arith)
     (pair_within rounds_within (pair_within device_place_within (pair_within vsock_data_within vsock_stage_within))))
 
 -- ---- a device of any kind
 
-devices_within : (code : ℕ) → WithinList (devices.devices code).reads 30639
+devices_within : (code : ℕ) → WithinList (devices.devices code).reads 30717
 devices_within zero =
-    standing_list_within _ 30639 (whole_within nets.net 30639 net_within)
+    standing_list_within _ 30717 (whole_within nets.net 30717 net_within)
 devices_within (suc zero) =
-    standing_list_within _ 30639 (wider_within 17227 30639 (omega arith) block_within)
+    standing_list_within _ 30717 (wider_within 17305 30717 (omega arith) block_within)
 devices_within (suc (suc zero)) =
-    standing_list_within _ 30639 (wider_within 27629 30639 (omega arith) (whole_within balloons.balloon 27629 balloon_within))
+    standing_list_within _ 30717 (wider_within 27707 30717 (omega arith) (whole_within balloons.balloon 27707 balloon_within))
 devices_within (suc (suc (suc zero))) =
-    standing_list_within _ 30639 (wider_within 27556 30639 (omega arith) (whole_within vsocks.vsock 27556 vsock_within))
-devices_within (suc (suc (suc (suc n)))) = no_list_within 30639
+    standing_list_within _ 30717 (wider_within 27634 30717 (omega arith) (whole_within vsocks.vsock 27634 vsock_within))
+devices_within (suc (suc (suc (suc n)))) = no_list_within 30717
 
-pub device_within : WithinList devices.device.reads 30640
+pub device_within : WithinList devices.device.reads 30718
 unfolding devices.device
-device_within = chosen_list_within 1 30639 byte_within devices_within
+device_within = chosen_list_within 1 30717 byte_within devices_within
 
 -- ---- a port
 

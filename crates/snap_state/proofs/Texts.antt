@@ -259,11 +259,11 @@ source_fits b is =
 
 pub record Machine (m : MachineConfig) : Type 0 where
   pub harts : m.vcpu_count ≤ hart_limit
-  pub mib : m.mem_size_mib ≤ 1024
+  pub mib : m.mem_size_mib ≤ 4096
 
 pub machine_of : (m : MachineConfig) → is_machine m ≡ true → Machine m
 machine_of m is =
-    let large = and_parts _ (nat_le m.mem_size_mib 1024) is in
+    let large = and_parts _ (nat_le m.mem_size_mib 4096) is in
     let some = and_parts _ (nat_le 4 m.mem_size_mib) large.0 in
     let few = and_parts (nat_le 1 m.vcpu_count) (nat_le m.vcpu_count hart_limit) some.0 in
     record { harts = leb-true _ _ few.1; mib = leb-true _ _ large.1 }
@@ -331,7 +331,7 @@ mmds_fit : (interfaces : List Interface) (o : Option MmdsConfig) → holds (is_m
 mmds_fit interfaces None is = fits_optional mmds None tt
 mmds_fit interfaces (Some m) is = fits_optional mmds (Some m) (mmds_fits interfaces m is)
 
-balloon_fits : (mib : ℕ) (b : Balloon) → mib ≤ 1024 → is_balloon mib b ≡ true → balloon.Fits b
+balloon_fits : (mib : ℕ) (b : Balloon) → mib ≤ 4096 → is_balloon mib b ≡ true → balloon.Fits b
 unfolding balloon
 balloon_fits mib b few is =
     let p = and_parts (nat_le b.amount_mib mib) (nat_lt b.stats_polling_interval_s (2 ^ 16)) is in
@@ -341,7 +341,7 @@ balloon_fits mib b few is =
       (fits_flag b.deflate_on_oom, fits64 b.stats_polling_interval_s (omega (arith, interval))),
     )
 
-balloons_fit : (mib : ℕ) (o : Option Balloon) → mib ≤ 1024 → holds (is_balloon mib) o ≡ true → (optional balloon).Fits o
+balloons_fit : (mib : ℕ) (o : Option Balloon) → mib ≤ 4096 → holds (is_balloon mib) o ≡ true → (optional balloon).Fits o
 balloons_fit mib None few is = fits_optional balloon None tt
 balloons_fit mib (Some b) few is = fits_optional balloon (Some b) (balloon_fits mib b few is)
 

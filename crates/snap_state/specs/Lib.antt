@@ -6,5 +6,6 @@ pub mod Configured
 pub mod Boards
 pub mod Copies
 pub mod Copy
+pub mod Sections
 pub mod Valid
 pub mod Files

@@ -39,8 +39,8 @@ use Rattle.snap_harts.specs.declared.hart.SavedHart.{SavedHart}
 use Rattle.snap_harts.specs.declared.hart.HartPlace.{HartPlace}
 use Rattle.snap_harts.specs.declared.hart.HartPlace.TheVariants.{Begin, BeginWaiting, Idle, IdleWaiting, Access}
 use Rattle.snap_state.specs.declared.copy.Reservation.{Reservation}
-use Rattle.snap_state.specs.declared.copy.Section.{Section}
 use Rattle.snap_state.specs.declared.copy.StateCopy.{StateCopy}
+use Rattle.snap_state.specs.Sections.{are_sections}
 use Rattle.snap_harts.specs.Copy.{regs_of}
 
 -- ---- the configuration, as the API takes it
@@ -53,10 +53,10 @@ are_paths (Some path) = is_path path
 abbrev pub is_source : BootSource → Bool
 is_source b = is_path b.kernel_image_path && are_paths b.initrd_path && is_short_text 2048 b.boot_args
 
--- 1 to 32 harts, and 4 to 1,024 MiB
+-- 1 to 32 harts, and 4 to 4,096 MiB
 abbrev pub is_machine : MachineConfig → Bool
 is_machine m =
-    nat_le 1 m.vcpu_count && nat_le m.vcpu_count hart_limit && nat_le 4 m.mem_size_mib && nat_le m.mem_size_mib 1024
+    nat_le 1 m.vcpu_count && nat_le m.vcpu_count hart_limit && nat_le 4 m.mem_size_mib && nat_le m.mem_size_mib 4096
 
 -- a drive's id is one that a path may name, its file's path is one, and its limits are such as there may be
 abbrev pub is_drive : Drive → Bool
@@ -203,13 +203,6 @@ abbrev pub is_rising : List Reservation → Bool
 is_rising [] = true
 is_rising (a ∷ others) = rises_from a others
 
--- ---- sections
-
--- each has a tag that is known, and they rise: none is known yet
-abbrev pub are_sections : List Section → Bool
-are_sections [] = true
-are_sections (section ∷ others) = false
-
 -- ---- the copy
 
 -- there are 256 pages for each MiB, and dirty pages are tracked where the configuration says so
@@ -241,5 +234,5 @@ is_valid c =
     && has_devices c
     && list_all (is_reserved c.pages c.configuration.machine.vcpu_count) c.reservations
     && is_rising c.reservations
-    && are_sections c.sections
+    && are_sections c.ports c.sections
     && list_all (is_timely c.guest_time) c.devices

@@ -23,7 +23,7 @@ pub struct Reservation {
     pub offset: u32,
 }
 
-/// What version 2 of the file has behind the copy, under a tag. No tag is known yet.
+/// What version 2 of the file has behind the copy, under a tag.
 #[derive(Drop)]
 pub struct Section {
     pub tag: u32,

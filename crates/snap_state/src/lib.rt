@@ -23,6 +23,7 @@ mod law;
 mod limits;
 mod listed;
 mod mmds;
+mod sections;
 mod valid;
 mod vsock;
 
@@ -33,4 +34,5 @@ pub use file::{STATE_HEADER, Saved, decode, encode_behind_gate, state_magic};
 pub use filed::{Filed, taken};
 pub use law::{one_copy, one_of_each};
 pub use listed::{Item, SavedDrives, SavedInterfaces, SavedList};
+pub use sections::sections_of;
 pub use valid::is_valid;

@@ -6,16 +6,16 @@ ghost use Rattle.api_calls.specs.Form.{has_path_bytes, is_path, is_short_text};
 ghost use Rattle.snap_state.specs.Valid.{are_paths, is_source, is_machine, is_board, is_counted, is_aligned};
 ghost use Rattle.snap_state.specs.Valid.{has_bits, is_granule, asks, is_placed, is_hart, is_reserved};
 ghost use Rattle.snap_state.specs.Valid.{is_before, is_rising, has_machine, has_devices, is_valid};
-ghost use Rattle.snap_state.specs.Valid.{are_sections};
 ghost use Rattle.snap_harts.specs.Copy.{regs_of};
 
 use crate::attached::{are_devices, are_drives, are_interfaces, are_timely, has_room};
 use crate::balloon::holds_balloon;
 use crate::board::SavedBoard;
 use crate::configuration::BootSource;
-use crate::copy::{Reservation, Section, StateCopy};
+use crate::copy::{Reservation, StateCopy};
 use crate::kinds::{are_device_kinds, are_ports};
 use crate::mmds::holds_mmds;
+use crate::sections::are_sections;
 use crate::vsock::holds_vsock;
 use api_calls::MachineConfig;
 use board_table::RING_SIZE;
@@ -74,7 +74,7 @@ fn is_machine(machine: &MachineConfig) -> bool
     1 <= machine.vcpu_count
         && machine.vcpu_count <= 32
         && 4 <= machine.mem_size_mib
-        && machine.mem_size_mib <= 1024
+        && machine.mem_size_mib <= 4096
 }
 
 fn is_board(harts: u64, board: &SavedBoard) -> bool
@@ -209,12 +209,6 @@ fn has_devices(copy: &StateCopy) -> bool
         && are_devices(copy.pages, devices)
 }
 
-fn are_sections(sections: &[Section]) -> bool
-    ensures { result ≡ are_sections sections.now }
-{
-    sections.is_empty()
-}
-
 /// Whether there is such a copy: what the fields are besides fitting their places.
 #[tactic(auto, unfolding(crate::specs::Valid::is_valid))]
 pub fn is_valid(copy: &StateCopy) -> bool
@@ -244,6 +238,6 @@ pub fn is_valid(copy: &StateCopy) -> bool
         && has_devices(copy)
         && are_reserved(copy.pages, harts, copy.reservations.as_slice())
         && is_rising(copy.reservations.as_slice())
-        && are_sections(copy.sections.as_slice())
+        && are_sections(copy.ports.as_slice(), copy.sections.as_slice())
         && are_timely(copy.guest_time, copy.devices.as_slice())
 }

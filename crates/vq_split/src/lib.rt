@@ -5,6 +5,7 @@
 #![tactic(auto)]
 
 mod descriptor;
+mod entry;
 mod fields;
 mod flaw;
 mod law;
@@ -13,9 +14,9 @@ mod valid;
 mod walk;
 
 pub use descriptor::Descriptor;
-pub use fields::{is_inside, read_bytes, value16, value32, value64};
+pub use fields::{index_in, is_inside, read_bytes, value16, value32, value64};
 pub use flaw::queue_flaw;
 pub use law::{walk_kept, walk_stays};
-pub use queue::{Part, PartList, Queue, Why};
+pub use queue::{Part, PartList, Queue, Table, Why};
 pub use valid::{are_inside, is_sound};
 pub use walk::{ChainWalk, Stage, Walk};

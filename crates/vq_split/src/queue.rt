@@ -2,9 +2,10 @@
 ghost use Rattle.std.specs.Prelude.{◌≡◌, ◌≤◌, ◌<◌, ◌++◌, ◌∷◌, length, [], slice_set, nat_le, if◌then◌else◌, Some, None};
 
 use std::marker::Model;
+use vm_types::Accepted;
 
-/// A split queue (VIRTIO 1.2, 2.7): its size, the guest addresses of its three tables, and how many pages
-/// of RAM the guest has.
+/// A split queue (VIRTIO 1.2, 2.7): its size, the guest addresses of its three tables, how many pages of RAM
+/// the guest has, and which of its features the driver accepted.
 #[derive(Clone, Copy, Drop)]
 pub struct Queue {
     pub descriptors: u64,
@@ -12,6 +13,14 @@ pub struct Queue {
     pub used: u64,
     pub size: u16,
     pub pages: u32,
+    pub accepted: Accepted,
+}
+
+/// A table of descriptors that a descriptor names (2.7.5.3): where it is, and how many it has.
+#[derive(Clone, Copy, Drop)]
+pub struct Table {
+    pub at: u64,
+    pub count: u16,
 }
 
 /// Why a queue is broken, in the order in which it is judged.
@@ -25,15 +34,21 @@ pub enum Why {
     Ahead,
     /// A head or a next is not below the size.
     Index,
-    /// A descriptor has INDIRECT set.
+    /// A descriptor has INDIRECT set where that isn't accepted, or beside NEXT, or inside a table that one named.
     Indirect,
-    /// A descriptor's length is 0.
+    /// The length of a table that a descriptor names is 0, no multiple of 16 or above 4,096.
+    TableLength,
+    /// Such a table isn't inside RAM.
+    TableOutside,
+    /// The next of an entry is not below its table's entries.
+    Entry,
+    /// A part's length is 0.
     Length,
     /// A part isn't inside RAM.
     Outside,
     /// A readable part follows a writable one.
     Order,
-    /// The chain has more descriptors than the size.
+    /// A chain without such a table has more descriptors than the size, or one with it more than 256 parts.
     Long,
 }
 

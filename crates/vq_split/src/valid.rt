@@ -1,12 +1,13 @@
 // Which walks there are.
-ghost use Rattle.std.specs.Prelude.{◌≡◌, true};
+ghost use Rattle.std.specs.Prelude.{◌≡◌, ◌<◌, ◌^◌, true};
 ghost use Rattle.vq_split.specs.Inside.{AreInside};
-ghost use Rattle.vq_split.specs.Kept.{are_inside, is_part, is_sound, is_stage};
-ghost use Rattle.vq_split.specs.Walking.{IsSound, IsStage};
+ghost use Rattle.vq_split.specs.Kept.{are_inside, is_entry, is_part, is_sound, is_stage};
+ghost use Rattle.vq_split.specs.Walking.{IsEntry, IsSound, IsStage};
 
+use crate::entry::{entry_place, front_length};
 use crate::fields::is_inside;
 use crate::flaw::are_tables;
-use crate::queue::{Part, Queue};
+use crate::queue::{Part, Queue, Table};
 use crate::walk::Stage;
 
 /// Whether a walk may stand on this queue.
@@ -17,14 +18,48 @@ pub fn is_sound(queue: &Queue) -> bool
     1 <= queue.size && queue.size <= 256 && are_tables(queue)
 }
 
-/// Whether the stage of a walk fits the parts that it has.
-pub fn is_stage(stage: Stage, queue: &Queue, parts: &[Part]) -> bool
-    ensures test { result ≡ is_stage stage queue.now parts.now }
-    ensures stage { result ≡ true → IsStage stage queue.now parts.now }
+// Whether there is such an entry of a table, behind fewer parts than a chain has at most.
+fn is_entry(queue: &Queue, table: &Table, at: u16, parts: &[Part]) -> bool
+    ensures test { result ≡ is_entry queue.now table.now at parts.now }
+    ensures entry { result ≡ true → IsEntry queue.now table.now at parts.now }
 {
+    queue.accepted.indirect
+        && at < table.count
+        && table.count <= 256
+        && is_inside(queue.pages, table.at, 16 * table.count as u64)
+        && parts.len() < 256
+}
+
+// A guest has fewer than 2^32 pages.
+fn few_pages(queue: &Queue)
+    ensures { queue.now.pages < 2 ^ 32 }
+{
+    let _pages = queue.pages;
+}
+
+/// Whether the stage of a walk fits the parts that it has.
+pub fn is_stage(stage: &Stage, queue: &Queue, parts: &[Part]) -> bool
+    ensures test { result ≡ is_stage stage.now queue.now parts.now }
+    ensures stage { result ≡ true → IsStage stage.now queue.now parts.now }
+{
+    few_pages(queue);
     match stage {
         Stage::Index | Stage::Ring => parts.len() == 0,
-        Stage::Link { head: _, at } => at < queue.size && parts.len() < queue.size as usize,
+        Stage::AvailEvent | Stage::IndexAgain => parts.len() == 0 && queue.accepted.event_index,
+        Stage::Link { head: _, at } => *at < queue.size && parts.len() < queue.size as usize,
+        Stage::Entry { head: _, table, at } => is_entry(queue, table, *at, parts),
+        Stage::EntryRest {
+            head: _,
+            table,
+            at,
+            front,
+        } => {
+            is_entry(queue, table, *at, parts)
+                && {
+                    let length = front_length(entry_place(table, *at));
+                    length < 16 && front.len() == length
+                }
+        }
     }
 }
 

@@ -14,7 +14,8 @@ use Rattle.vq_split.specs.Inside.{AreInside}
 use Rattle.dev_core.specs.declared.collect.Collect.{Collect}
 use Rattle.dev_core.specs.Collecting.{collect_left}
 use Rattle.dev_core.specs.Pieces.{Got, past, place, put_all, readable, room, share, total, writable}
-use Rattle.dev_core.proofs.Fuel.{bytes_fit, collect_done, put_done}
+use Rattle.vq_split.proofs.Steps.{bytes_fit}
+use Rattle.dev_core.proofs.Fuel.{collect_done, put_done}
 use Rattle.dev_core.proofs.Inside.{filter_inside, past_inside}
 use Rattle.queue_device.specs.declared.lanes.Which.{Which}
 use Rattle.queue_device.specs.declared.lanes.Which.TheVariants.{First, Second, Third}

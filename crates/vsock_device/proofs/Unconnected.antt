@@ -14,9 +14,9 @@ use Rattle.device_trace.specs.Traces.{cut_by as left_out}
 use Rattle.vq_split.specs.declared.queue.Queue.{Queue}
 use Rattle.vq_split.specs.declared.walk.Walk.{Walk}
 use Rattle.vq_split.specs.declared.walk.Walk.TheVariants as walk
-use Rattle.vq_split.specs.Chain.{read_bytes}
+use Rattle.vq_split.specs.Chain.{indexed_by, read_bytes}
 use Rattle.vq_split.specs.Kept.{is_walking}
-use Rattle.vq_split.specs.Walking.{walk_left, walk_wants}
+use Rattle.vq_split.specs.Walking.{Walking, look_left, walk_left, walk_wants}
 use Rattle.dev_core.specs.declared.returning.ReturnStage.TheVariants as returning
 use Rattle.dev_core.specs.Collecting.{collect_left}
 use Rattle.dev_core.specs.Pieces.{Got, collect_all, past, put_all, readable, room, total, writable}
@@ -30,10 +30,11 @@ use Rattle.queue_device.specs.Acting.{Acting, Acts, Comes, performing}
 use Rattle.queue_device.specs.Chains.{Chain, Taken}
 use Rattle.queue_device.specs.Kept.{is_at_lane, is_of_round, is_place, is_walked}
 use Rattle.queue_device.specs.Lanes.{lane_of}
-use Rattle.queue_device.specs.Left.{left_at, queued, used_chain}
-use Rattle.queue_device.specs.Rounds.{answered, during, served, took, walked}
+use Rattle.queue_device.specs.Left.{left_at, queued, used_chain, walk_on}
+use Rattle.queue_device.specs.Rounds.{answered, at_own, during, index_read, index_shown, served, took, walked}
 use Rattle.queue_device.specs.Service.{Queued}
 use Rattle.queue_device.proofs.GoesOn.{break_asks, return_asks}
+use Rattle.queue_device.proofs.Steps.{FirstAsks, walk_first}
 use Rattle.queue_device.proofs.Walks.{test_asks}
 use Rattle.vsock_packet.specs.declared.header.Header.{Header}
 use Rattle.vsock_packet.specs.declared.operation.Operation.{Operation}
@@ -54,7 +55,7 @@ use Rattle.vsock_device.specs.Data.{delivered, delivered_by, held_sent}
 use Rattle.vsock_device.specs.Guest.{dialling, failed, forwarding_all, is_addressed, is_orphaned, of_connection, one_failed, packet_read, passing, piece_read, strange, taken_in}
 use Rattle.vsock_device.specs.Packets.{refusal}
 use Rattle.vsock_device.specs.Reset.{act_cut, call_cut, cut_by, is_unconnected, reset, unconnected}
-use Rattle.vsock_device.specs.Vsock.{received, served_by, text_of, told, transport_reset, vsock, vsock_rules}
+use Rattle.vsock_device.specs.Vsock.{begun_by, received, served_by, text_of, told, transport_reset, vsock, vsock_rules}
 use Rattle.vsock_device.specs.Work.{hand_of, serving_of}
 
 -- ---- no connection, and no bytes of the host
@@ -282,6 +283,26 @@ performed (Wants o next) op is d more on =
     (λ reply fails. perform_root (next reply) (queued d.rounds (reset d.own)) more (reset_own d.own)
     (λ a. on (queued d.rounds (reset d.own)) a (reset_own d.own)))
 
+-- a walk that looks at the ring may be begun behind it
+begun_own : (test : Bool) (k : Which) (d : Queued Vsock) → IsUnconnected d.own
+    → IsUnconnected (if test then d else at_own (vsock.begun k) d).own
+begun_own true k d is = is
+begun_own false k d is = hand_own (begun_by k d.own) d.own is
+
+read_root : (k : Which) (next : ℕ) (q : Queue) (d : Queued Vsock) (index : ℕ) → IsUnconnected d.own
+    → Root (index_read vsock k next q d index)
+read_root k next q d index is =
+    let now : Queued Vsock = index_shown vsock k next index d in
+    let own = begun_own (index == next) k d is in
+    perform_root (indexed_by q next index) now (walked vsock k q) own (λ came. walked_root k q now came own)
+
+walk_root : (o : Option (Doing ℕ)) (k : Which) (v : Walking) (d : Queued Vsock) → FirstAsks (walk_wants v) (walk_left v) o
+    → Root (changed_at vsock_rules Reset (walk_on vsock k v o d))
+walk_root (Some look) k v d asks =
+    performed look (walk_wants v) asks d (index_read vsock k v.next v.queue) (λ e index own. read_root k v.next v.queue e index own)
+walk_root None k v d asks =
+    performed (walk_left v) (walk_wants v) asks d (walked vsock k v.queue) (λ e came own. walked_root k v.queue e came own)
+
 pub behind_reset : (p : Phase) (r : Rounds) (e : Vsock) (g : Stage) → is_place false p r ≡ true
     → Root (changed_at vsock_rules Reset (left_at vsock p (hand_of g) (queued r e)))
 behind_reset phase.Between r e g place = reset_own e
@@ -304,8 +325,7 @@ behind_reset (phase.Walk k v) r e g place =
     let at = and_parts (is_at_lane r.due) (is_walked (lane_of k r) v) place in
     let p1 = and_parts _ (v.next == (lane_of k r).next) at.1 in
     let p0 = and_parts (is_walking v) (is_of_round (lane_of k r).queue v.queue) p1.0 in
-    performed (walk_left v) (walk_wants v) (test_asks v p0.0) (queued r e) (walked vsock k v.queue)
-    (λ d came own. walked_root k v.queue d came own)
+    walk_root (look_left v.stage v.queue v.next) k v (queued r e) (walk_first v (walk_wants v) (test_asks v p0.0))
 behind_reset (phase.Take c) r e g place =
     cut_root (cut_by e.in_hand (hand_of g).op) (queued r (reset e)) (hand_of g).op _
     (λ reply cut. cut_failing e.in_hand (hand_of g).op reply cut) (reset_own e) (λ reply fails. reset_own e)

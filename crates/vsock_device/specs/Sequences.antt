@@ -92,6 +92,7 @@ looks is_kicked = did (Port 3 Look) (Reply.Port (record {
   first = queue_at 0x80002000 false;
   second = queue_at 0x80003000 is_kicked;
   third = queue_at 0x80004000 false;
+  accepted = record { indirect = false; event_index = false };
   status = 15;
   was_reset = false;
 }))

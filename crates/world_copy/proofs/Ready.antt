@@ -39,8 +39,8 @@ are_counted config w it i h there =
 
 -- ---- its copy
 
-few_mib : (m : MachineConfig) → is_machine m ≡ true → m.mem_size_mib ≤ 1024
-few_mib m is = leb-true m.mem_size_mib 1024 (and_parts _ (nat_le m.mem_size_mib 1024) is).1
+few_mib : (m : MachineConfig) → is_machine m ≡ true → m.mem_size_mib ≤ 4096
+few_mib m is = leb-true m.mem_size_mib 4096 (and_parts _ (nat_le m.mem_size_mib 4096) is).1
 
 pub ready_valid : (config : Config) (w : WorldValue) (copy : StateCopy) → IsReadyWorld config w
     → ((g : Guest) → IsWorld w g → IsCopyOf config (reset_guest g) copy) → IsTrue (is_valid copy)

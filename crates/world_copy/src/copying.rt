@@ -18,7 +18,7 @@ use hart_rv64::Hart;
 use line_board::Board;
 use reservation_copy::reservations_of;
 use snap_harts::{SavedHart, SavedHartState};
-use snap_state::{SavedBoard, StateCopy};
+use snap_state::{SavedBoard, StateCopy, sections_of};
 use std::alloc::{AllocError, Global};
 use vm_config::Config;
 use vm_types::ByteList;
@@ -94,6 +94,7 @@ fn copy_with(
     let configuration = configuration_of(alloc, config)?;
     let board = board_copy(alloc, world.board())?;
     let ports = ports_kept(alloc, world.ports())?;
+    let sections = sections_of(alloc, ports.as_slice())?;
     let devices = devices_kept(alloc, world.devices())?;
     let reservations = reservations_of(alloc, world.pages())?;
     Ok(StateCopy {
@@ -106,7 +107,7 @@ fn copy_with(
         ports,
         devices,
         reservations,
-        sections: Items::new(alloc),
+        sections,
     })
 }
 

@@ -28,9 +28,11 @@ struct Outside {
     now: u64,
 }
 
-fn read_letter(at: u64) -> char {
+fn read_letter(setting: &Setting, at: u64) -> char {
     if at == AVAILABLE + 2 {
         'i'
+    } else if at == setting.used_event() {
+        'e'
     } else if at < AVAILABLE {
         'd'
     } else if at < USED {
@@ -42,9 +44,11 @@ fn read_letter(at: u64) -> char {
     }
 }
 
-fn write_letter(at: u64) -> char {
+fn write_letter(setting: &Setting, at: u64) -> char {
     if at == USED + 2 {
         'X'
+    } else if at == setting.avail_event() {
+        'a'
     } else if at < HEADER {
         'U'
     } else if at < STATUS {
@@ -81,6 +85,7 @@ fn port_answered(outside: &mut Outside, setting: &Setting, act: &PortOp) -> (cha
                 first: setting.queue_shown(outside.is_kicked),
                 second: NONE,
                 third: NONE,
+                accepted: setting.accepted,
                 status: outside.status,
                 was_reset: false,
             };
@@ -98,10 +103,10 @@ fn port_answered(outside: &mut Outside, setting: &Setting, act: &PortOp) -> (cha
 // Answers an act, and names it by a letter.
 fn answered(outside: &mut Outside, memory: &mut [u8], setting: &Setting, op: &Op) -> (char, Reply) {
     match op {
-        Op::Read { at, len } => (read_letter(*at), read(memory, *at, *len)),
+        Op::Read { at, len } => (read_letter(setting, *at), read(memory, *at, *len)),
         Op::Write { at, piece } => {
             put(memory, *at, piece.as_slice());
-            (write_letter(*at), Reply::Done)
+            (write_letter(setting, *at), Reply::Done)
         }
         Op::Port { port: _, act } => port_answered(outside, setting, act),
         Op::Out(act) => disk_answered(outside, setting, act),

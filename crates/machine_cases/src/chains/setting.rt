@@ -2,10 +2,16 @@
 use crate::chains::memory::{AVAILABLE, DESCRIPTORS, HEADER, PAGES, PLACE, STATUS, USED, put};
 use crate::words::{Numbers, numbers_in};
 use rate_gate::{Bucket, RateGate};
-use vm_types::QueueShown;
+use vm_types::{Accepted, QueueShown};
 use vq_split::Queue;
 
-/// The device, its queue, how many acts are made and which bytes are shown after them. The disk's acts from the one of
+/// None of the features of a queue.
+pub const NOTHING: Accepted = Accepted {
+    indirect: false,
+    event_index: false,
+};
+
+/// The device, its queue, what the driver accepted of its features, how many acts are made and which bytes are shown after them. The disk's acts from the one of
 /// number `failing` on fail. The bucket of bytes is full at first; guest time begins with 0, and is `step` nanoseconds later at each
 /// question.
 #[derive(Clone, Copy, Drop)]
@@ -14,6 +20,7 @@ pub struct Setting {
     pub is_read_only: bool,
     pub table: u64,
     pub size: u16,
+    pub accepted: Accepted,
     pub failing: u64,
     pub acts: usize,
     pub shown: u64,
@@ -40,7 +47,18 @@ impl Setting {
             used: USED,
             size: self.size,
             pages: PAGES,
+            accepted: self.accepted,
         }
+    }
+
+    /// Where the driver says at which used index it wants an interrupt.
+    pub fn used_event(&self) -> u64 {
+        AVAILABLE + (4 + 2 * self.size as u64)
+    }
+
+    /// And the device at which available index it wants a kick.
+    pub fn avail_event(&self) -> u64 {
+        USED + (4 + 8 * self.size as u64)
     }
 
     pub fn queue_shown(&self, is_kicked: bool) -> QueueShown {
@@ -60,6 +78,7 @@ const PLAIN: Setting = Setting {
     is_read_only: false,
     table: DESCRIPTORS,
     size: 8,
+    accepted: NOTHING,
     failing: 1000,
     acts: 12,
     shown: 0,
@@ -96,6 +115,13 @@ fn set(setting: &mut Setting, memory: &mut [u8], name: &str, values: Numbers) ->
     match name {
         "size" => setting.size = low16(values.a),
         "table" => setting.table = values.a,
+        "accepted" => {
+            setting.accepted = Accepted {
+                indirect: values.a % 2 == 1,
+                event_index: values.a / 2 % 2 == 1,
+            }
+        }
+        "event" => put(memory, setting.used_event(), &low16(values.a).to_le_bytes()),
         "sectors" => setting.sectors = values.a,
         "limit" => {
             setting.limit = values.a;

@@ -8,6 +8,7 @@ use vq_split::{ChainWalk, Walk, Why};
 fn answered(memory: &[u8], op: &Op) -> Reply {
     match op {
         Op::Read { at, len } => read(memory, *at, *len),
+        Op::Write { .. } => Reply::Done,
         _ => Reply::AccessFault,
     }
 }
@@ -36,6 +37,9 @@ fn name(why: Why) -> &'static str {
         Why::Ahead => "ahead",
         Why::Index => "index",
         Why::Indirect => "indirect",
+        Why::TableLength => "table length",
+        Why::TableOutside => "table outside",
+        Why::Entry => "entry",
         Why::Length => "length",
         Why::Outside => "outside",
         Why::Order => "order",

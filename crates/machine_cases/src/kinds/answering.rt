@@ -1,5 +1,6 @@
 // What answers the acts of a network device or a balloon.
 use crate::chains::memory::{AVAILABLE, DESCRIPTORS, HEADER, USED, put, read};
+use crate::chains::setting::NOTHING;
 use crate::kinds::laying::{BEHIND, Setting};
 use vm_types::{BoardOp, Op, OutOp, Piece, PortLook, PortOp, QueueShown, Reply};
 
@@ -51,6 +52,7 @@ fn looked(outside: &mut Outside) -> Reply {
         first: queue_shown(0, kicks % 2 == 1),
         second: queue_shown(BEHIND, kicks / 2 % 2 == 1),
         third: queue_shown(2 * BEHIND, kicks / 4 % 2 == 1),
+        accepted: NOTHING,
         status: outside.status,
         was_reset: false,
     })

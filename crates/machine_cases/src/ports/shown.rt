@@ -3,7 +3,7 @@ use crate::words::{push_bytes, push_number};
 use std::alloc::{AllocError, Global};
 use vm_types::{PortLook, QueueShown, Reply};
 
-/// The bytes that were read; `STATUS` and three queues of a look; a word; or the reply's name.
+/// The bytes that were read; `STATUS`, what was accepted and three queues of a look; a word; or the reply's name.
 pub fn add_reply(alloc: Global, text: &mut String, reply: &Reply) -> Result<(), AllocError> {
     match reply {
         Reply::Bytes(piece) => push_bytes(alloc, text, piece.as_slice()),
@@ -17,6 +17,8 @@ pub fn add_reply(alloc: Global, text: &mut String, reply: &Reply) -> Result<(), 
 fn add_look(text: &mut String, look: &PortLook) -> Result<(), AllocError> {
     push_number(text, look.status as u64)?;
     push_if(text, look.was_reset, " reset")?;
+    push_if(text, look.accepted.indirect, " indirect")?;
+    push_if(text, look.accepted.event_index, " event")?;
     add_queue(text, &look.first)?;
     add_queue(text, &look.second)?;
     add_queue(text, &look.third)

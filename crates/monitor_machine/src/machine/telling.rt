@@ -79,7 +79,7 @@ fn tell_interface(guest: &mut Option<World>, config: &TakenConfig, patch: &Inter
 
 // What the port of the balloon shows once it is to take so much.
 fn target_by(guest: &World, device: u8, balloon: &Balloon) -> Option<[u8; 8]>
-    requires { balloon.now.amount_mib ≤ 1024 }
+    requires { balloon.now.amount_mib ≤ 4096 }
     ensures { result ≡ balloons.target_in balloon.now (slice_get guest.now.ports device) }
 {
     match guest.shown(device) {
@@ -89,7 +89,7 @@ fn target_by(guest: &World, device: u8, balloon: &Balloon) -> Option<[u8; 8]>
 }
 
 fn show_target(guest: &mut World, device: u8, balloon: &Balloon)
-    requires few { balloon.now.amount_mib ≤ 1024 }
+    requires few { balloon.now.amount_mib ≤ 4096 }
     requires near { balloon.now.stats_polling_interval_s < 2 ^ 16 }
     ensures { (g : Guest) → IsWorld guest.old g → IsWorld guest.new
         (told device (balloons.interval_told balloon.now) (balloons.target_in balloon.now (slice_get g.ports device)) g) }
@@ -99,7 +99,7 @@ fn show_target(guest: &mut World, device: u8, balloon: &Balloon)
 }
 
 fn tell_target(guest: &mut Option<World>, device: Option<u8>, balloon: &Balloon)
-    requires few { balloon.now.amount_mib ≤ 1024 }
+    requires few { balloon.now.amount_mib ≤ 4096 }
     requires near { balloon.now.stats_polling_interval_s < 2 ^ 16 }
     ensures { TellsDevice device (balloons.interval_told balloon.now) (balloons.target_in balloon.now) guest.old guest.new }
 {

@@ -12,8 +12,7 @@ returns-in-Ok-clause-kept g c = λ kept at shown works.
     let r = c.args.rounds.now in
     c.walk_given.ensures.kept (and_from _ _ kept at)
     (new_walked g.K.Kind.service g.K.Kind.times g.K.Kind.is_work (lane_of c.args.which r) c.args.queue c.lane.result.now.next c.in-Ok.walk c.in-Ok.ensures.first.1
-    (ap (λ (l : Lane). l.next) c.lane.ensures) shown c.wanting.ensures.test)
-    (c.show.ensures.rests r.pages works)
+    (ap (λ (l : Lane). l.next) c.lane.ensures) shown c.wanting.ensures.test) works
 
 pub returns-in-Err-clause-kept : goal.returns-in-Err-clause-kept
 returns-in-Err-clause-kept g c = λ kept at shown works.

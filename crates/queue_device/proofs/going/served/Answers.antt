@@ -10,4 +10,4 @@ returns-in-None-clause-kept g c = λ r h hold works.
 
 pub returns-in-Some-clause-kept : goal.returns-in-Some-clause-kept
 returns-in-Some-clause-kept g c = λ r h hold works.
-    return_kept g.K.Kind.service g.K.Kind.times g.K.Kind.is_work r h c.args.chain hold c.in-Some.len returning.Pair refl works
+    return_kept g.K.Kind.service g.K.Kind.times g.K.Kind.is_work r h c.args.chain hold c.in-Some.len returning.Pair refl refl works

@@ -49,6 +49,21 @@ pub returns-in-Index-clause-chain : goal.returns-in-Index-clause-chain
 returns-in-Index-clause-chain c =
     none_kept c.args.stage c.clear.new.chain c.args.chain.now c.clear.new.len c.args.len.now c.clear.ensures.chain c.clear.ensures.len
 
+pub returns-in-Event-clause-left : goal.returns-in-Event-clause-left
+returns-in-Event-clause-left c =
+    none_left c.args.stage c.clear-in-Event.new.chain c.args.chain.now c.clear-in-Event.new.len c.args.len.now c.clear-in-Event.ensures.chain c.clear-in-Event.ensures.len
+    (λ r. subst (λ (x : ReturnStage). return_left x (used_chain (record c.args.chain.now { head = 0 }) 0 r)
+    ≡ return_left x (used_chain c.args.chain.now c.args.len.now r)) (sym c.in-Event.is) refl)
+
+pub returns-in-Event-clause-told : goal.returns-in-Event-clause-told
+returns-in-Event-clause-told c =
+    none_told c.args.stage c.clear-in-Event.new.chain c.args.chain.now c.clear-in-Event.new.len c.args.len.now c.clear-in-Event.ensures.chain c.clear-in-Event.ensures.len
+    (subst (λ (x : ReturnStage). is_told x 0 0 ≡ true) (sym c.in-Event.is) (and_from _ _ (is_eq 0 0 refl) (is_eq 0 0 refl)))
+
+pub returns-in-Event-clause-chain : goal.returns-in-Event-clause-chain
+returns-in-Event-clause-chain c =
+    none_kept c.args.stage c.clear-in-Event.new.chain c.args.chain.now c.clear-in-Event.new.len c.args.len.now c.clear-in-Event.ensures.chain c.clear-in-Event.ensures.len
+
 pub returns-in-Interrupt-clause-left : goal.returns-in-Interrupt-clause-left
 returns-in-Interrupt-clause-left c =
     none_left c.args.stage c.clear-in-Interrupt.new.chain c.args.chain.now c.clear-in-Interrupt.new.len c.args.len.now c.clear-in-Interrupt.ensures.chain c.clear-in-Interrupt.ensures.len

@@ -1,12 +1,25 @@
 -- A reply to the giving back of a chain; and what is kept, by what the device is at.
-use Rattle.std.proofs.Common.{◌≡◌, subst, true}
+use Rattle.std.proofs.Common.{◌≡◌, subst, sym, true}
+use Rattle.vm_types.specs.declared.op.Op.{Op}
+use Rattle.vm_types.specs.Fits.{fits}
 use Rattle.queue_device.specs.declared.phase.Phase.{Phase}
 use Rattle.queue_device.specs.declared.phase.Phase.TheVariants as phase
 use Rattle.queue_device.specs.Kept.{is_state}
 use Rattle.queue_device.specs.Left.{queued}
 use Rattle.queue_device.proofs.CodeGoes.{break_parts, return_parts, serve_parts, state_parts, take_parts, walk_parts}
-use Rattle.queue_device.proofs.Steps.{break_next, return_next, walk_next}
+use Rattle.queue_device.proofs.Steps.{break_next, return_fits, return_next, walk_next, walk_op}
 use Rattle.queue_device.proofs.inside.inside_given.Goals as goal
+
+pub walk_given-requires : goal.walk_given-requires
+walk_given-requires g c =
+    subst (λ (op : Op). fits op c.args.reply ≡ true)
+    (sym (walk_op g.K.Kind.service (g.K.Kind.hand (g.K.Kind.stage c.args.kind.now)) (queued c.args.rounds.now (g.K.Kind.own c.args.kind.now))
+    c.args.phase _ c.in-Walk.which c.in-Walk.walk c.in-Walk.is c.wanting.ensures.asked)) c.requires
+
+pub return_given-requires : goal.return_given-requires
+return_given-requires g c =
+    return_fits g.K.Kind.service (g.K.Kind.hand (g.K.Kind.stage c.args.kind.now)) (queued c.args.rounds.now (g.K.Kind.own c.args.kind.now))
+    c.args.phase c.in-Return.chain c.in-Return.len c.in-Return.stage c.args.reply c.in-Return.is c.requires
 
 pub returns-in-Return-clause-left : goal.returns-in-Return-clause-left
 returns-in-Return-clause-left g c =

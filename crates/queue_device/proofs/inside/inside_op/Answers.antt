@@ -1,6 +1,12 @@
 -- What is wanted inside a group, by what the device is at.
-use Rattle.queue_device.proofs.Steps.{holds_break, holds_question, holds_return, holds_serve, holds_take, holds_walk}
+use Rattle.queue_device.specs.Left.{queued}
+use Rattle.queue_device.proofs.Steps.{holds_break, holds_question, holds_return, holds_serve, holds_take, holds_walk, walk_op}
 use Rattle.queue_device.proofs.inside.inside_op.Goals as goal
+
+pub returns-in-Walk-clause-root : goal.returns-in-Walk-clause-root
+returns-in-Walk-clause-root g c =
+    walk_op g.K.Kind.service (g.K.Kind.hand (g.K.Kind.stage c.args.kind.now)) (queued c.args.rounds.now (g.K.Kind.own c.args.kind.now))
+    c.args.phase.now c.want-in-Walk.result c.in-Walk.which c.in-Walk.walk c.in-Walk.is c.want-in-Walk.ensures.asked
 
 pub returns-in-Walk-clause-holds : goal.returns-in-Walk-clause-holds
 returns-in-Walk-clause-holds g c inside =

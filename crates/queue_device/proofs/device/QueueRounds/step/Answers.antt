@@ -8,8 +8,8 @@ use Rattle.queue_device.proofs.device.QueueRounds.step.Goals as goal
 pub walk_step-requires-clause-walks : goal.walk_step-requires-clause-walks
 walk_step-requires-clause-walks g c = (c.in-Walk.which, c.in-Walk.walk, c.in-Walk.is)
 
-pub return_step-requires : goal.return_step-requires
-return_step-requires g c = (c.in-Return.chain, c.in-Return.len, c.in-Return.stage, c.in-Return.is)
+pub return_step-requires-clause-returns : goal.return_step-requires-clause-returns
+return_step-requires-clause-returns g c = (c.in-Return.chain, c.in-Return.len, c.in-Return.stage, c.in-Return.is)
 
 pub returns-in-Between-clause-kept : goal.returns-in-Between-clause-kept
 returns-in-Between-clause-kept g c = λ state.
