@@ -76,6 +76,10 @@ def serve(folder, *words, **streams):
     return process, connected(path)
 
 
+# What the guests transfer and traffic have in their number: chains in tables of their own, and the indexes of events.
+TABLES, EVENTS = 1 << 52, 1 << 53
+
+
 def image_of(name, rounds):
     """The image of a guest that measures, with so many rounds."""
     with open(f"{TOP}/guests/images/{name}", "rb") as file:

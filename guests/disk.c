@@ -19,9 +19,11 @@ static void request(const char *what, u32 type, u64 sector, char *data, u32 len)
     u16 last = len == 0 ? 1 : 2;
     req = (struct virtio_blk_req){type, 0, sector};
     status = 255;
-    queue.desc[0] = (struct virtq_desc){(u64)&req, sizeof req, VIRTQ_DESC_F_NEXT, 1};
-    queue.desc[1] = (struct virtq_desc){(u64)data, len, flags, 2};
-    queue.desc[last] = (struct virtq_desc){(u64)&status, 1, VIRTQ_DESC_F_WRITE, 0};
+    chain_desc(&queue, 0) = (struct virtq_desc){(u64)&req, sizeof req, VIRTQ_DESC_F_NEXT, 1};
+    chain_desc(&queue, 1) = (struct virtq_desc){(u64)data, len, flags, 2};
+    chain_desc(&queue, last) = (struct virtq_desc){(u64)&status, 1, VIRTQ_DESC_F_WRITE, 0};
+    if (uses(VIRTIO_F_INDIRECT_DESC))
+        queue.desc[0] = named(queue.table, last + 1);
     u32 used = use_chain(&queue, 0);
     put_text(what);
     put_text(status < 3 ? results[status] : "no status");

@@ -1,7 +1,7 @@
 // Sends frames without a pause, or takes those that come. For each a line says when it was done, by the time that the hart reads. The
 // doubleword at offset 8 of its image has how many frames there are in its lowest 40 bits, and in the next eleven the length of
 // those that it sends. With its highest bit the hart waits for interrupts and not in a loop, with the next one it takes frames, and with
-// the third it offers many at once, and has a line for each thousandth alone.
+// the third it offers many at once, and has a line for each thousandth alone. The bits 52 and 53 are for the features of the rings.
 enum { RECEIVE, TRANSMIT, QUEUES };
 #define QUEUE_SIZE 16
 #include "queues.c"
@@ -38,6 +38,8 @@ static void offer_frame(u64 number, u32 slot)
 
 static void wait_until_used(u32 queue, u16 taken)
 {
+    if (rounds & WAITS)
+        ask_for_interrupt(queue);
     while (queues[queue].used.idx == taken) {
         if (rounds & WAITS)
             wait_for_line();
@@ -71,9 +73,10 @@ void run(u64 hart)
         take_lines();
     u32 queue = rounds & RECEIVES ? RECEIVE : TRANSMIT, ahead = rounds & MANY ? QUEUE_SIZE : 1;
     for (u64 offered = 0, done = 0; done < COUNT;) {
+        u64 before = offered;
         for (; offered < COUNT && offered - done < ahead; offered++)
             offer_frame(offered, offered % ahead);
-        write_register(QueueNotify, queue);
+        kick(queue, offered - before);
         wait_until_used(queue, done);
         for (; queues[queue].used.idx != (u16)done; done++)
             if ((rounds & MANY) == 0 || (done + 1) % 1000 == 0) {

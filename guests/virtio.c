@@ -61,7 +61,9 @@ static u64 agree_on_features(u64 wanted)
         write_register(DeviceFeaturesSel, half);
         features |= (u64)read_register(DeviceFeatures) << (32 * half);
     }
-    features &= wanted;
+    features &= wanted | RING_FEATURES;
+    if ((features & RING_FEATURES) != RING_FEATURES)
+        give_up("the device doesn't offer the rings' features");
     for (u32 half = 0; half < 2; half++) {
         write_register(DriverFeaturesSel, half);
         write_register(DriverFeatures, (u32)(features >> (32 * half)));
@@ -137,15 +139,24 @@ static void wait_for_device(volatile struct virtq *queue)
     } while (queue->used.idx != queue->avail.idx);
 }
 
+// Whether the device wants to be told of the chains that were offered last, which are so many (2.7.10).
+static inline int is_kick_wanted(volatile struct virtq *queue, u16 count)
+{
+    return !uses(VIRTIO_F_EVENT_IDX) || (u16)(queue->avail.idx - *avail_event(queue) - 1) < count;
+}
+
 // 2.7.13
 u32 use_chain(volatile struct virtq *queue, u16 head)
 {
     u16 at = queue->avail.idx % QUEUE_SIZE;
     queue->avail.ring[at] = head;
+    if (uses(VIRTIO_F_EVENT_IDX))
+        *used_event(queue) = queue->used.idx;
     barrier();
     queue->avail.idx++;
     barrier();
-    write_register(QueueNotify, 0);
+    if (is_kick_wanted(queue, 1))
+        write_register(QueueNotify, 0);
     wait_for_device(queue);
     return queue->used.ring[at].len;
 }

@@ -41,6 +41,24 @@ enum virtio_mmio {
 // The feature that a driver by this standard accepts (6.1).
 #define VIRTIO_F_VERSION_1 (1UL << 32)
 
+// Features of the rings (6): a chain may stand in a table of its own, which one descriptor names (2.7.5.3), and each side says behind
+// which index it wants to be told (2.7.7 and 2.7.10).
+#define VIRTIO_F_INDIRECT_DESC (1UL << 28)
+#define VIRTIO_F_EVENT_IDX (1UL << 29)
+
+// Those that the driver uses: none, where it isn't built with some, and then its queues have no room for tables and indexes.
+#ifdef RING_FEATURES
+#define IF_USED(room) (room)
+extern const volatile u64 rounds;
+#else
+#define RING_FEATURES 0
+#define IF_USED(room) 0
+#endif
+#define uses(feature) ((RING_FEATURES & (feature)) != 0)
+
+// A descriptor of a chain, which stands in a table of its own or in that of the queue.
+#define chain_desc(queue, index) (*(uses(VIRTIO_F_INDIRECT_DESC) ? &(queue)->table[index] : &(queue)->desc[index]))
+
 // How many descriptors a queue has, which is a split one (2.7).
 #ifndef QUEUE_SIZE
 #define QUEUE_SIZE 4
@@ -48,6 +66,7 @@ enum virtio_mmio {
 
 #define VIRTQ_DESC_F_NEXT 1
 #define VIRTQ_DESC_F_WRITE 2
+#define VIRTQ_DESC_F_INDIRECT 4
 
 struct virtq_desc {
     u64 addr;
@@ -59,7 +78,7 @@ struct virtq_desc {
 struct virtq_avail {
     u16 flags;
     u16 idx;
-    u16 ring[QUEUE_SIZE];
+    u16 ring[QUEUE_SIZE + IF_USED(1)];
 };
 
 struct virtq_used_elem {
@@ -70,21 +89,39 @@ struct virtq_used_elem {
 struct virtq_used {
     u16 flags;
     u16 idx;
-    struct virtq_used_elem ring[QUEUE_SIZE];
+    struct virtq_used_elem ring[QUEUE_SIZE + IF_USED(1)];
 };
 
-// Its three areas, which are so small that they lie in one page.
+// Its three areas, which are so small that they lie in one page, and the descriptors of tables that aren't the queue's own.
 struct virtq {
     struct virtq_desc desc[QUEUE_SIZE];
     struct virtq_avail avail;
     struct virtq_used used;
+    struct virtq_desc table[IF_USED(QUEUE_SIZE)];
 } __attribute__((aligned(128)));
+
+// Behind either ring: the used index whose increment the driver wants to be told of, and the available index of which the device wants that.
+static inline volatile u16 *used_event(volatile struct virtq *queue)
+{
+    return queue->avail.ring + QUEUE_SIZE;
+}
+
+static inline volatile u16 *avail_event(volatile struct virtq *queue)
+{
+    return (volatile u16 *)(queue->used.ring + QUEUE_SIZE);
+}
+
+// A chain that stands in a table of its own (2.7.5.3).
+static inline struct virtq_desc named(volatile struct virtq_desc *table, u32 count)
+{
+    return (struct virtq_desc){(u64)table, count * sizeof *table, VIRTQ_DESC_F_INDIRECT, 0};
+}
 
 // Looks for the device of this type. What follows is done with it. Where a driver can't go on it says why, and turns the
 // machine off.
 void find_device(u32 id);
 
-// Brings the device up with its queue 0, and with those of these features that it offers, which are returned.
+// Brings the device up with its queue 0, and with those of these features that it offers, which are returned. It has to offer those of the rings.
 u64 bring_up(u64 wanted, volatile struct virtq *queue);
 
 // A field of 64 bits in its configuration.

@@ -181,15 +181,17 @@ static void take(const struct packet *packet)
 static int receive(void)
 {
     volatile struct virtq_used *used = &queues[RECEIVE].used;
+    ask_for_interrupt(RECEIVE);
     if (used->idx == received)
         return 0;
+    u16 before = received;
     for (; used->idx != received; received++) {
         barrier();
         u32 slot = used->ring[received % QUEUE_SIZE].id;
         take(&came[slot]);
         offer_at(RECEIVE, slot, &came[slot], sizeof came[slot], VIRTQ_DESC_F_WRITE);
     }
-    write_register(QueueNotify, RECEIVE);
+    kick(RECEIVE, received - before);
     return 1;
 }
 
@@ -268,6 +270,7 @@ static int send_one(void)
 {
     static u32 turn;
     volatile struct virtq *queue = &queues[TRANSMIT];
+    ask_for_interrupt(TRANSMIT);
     if (queue->used.idx != queue->avail.idx)
         return 0;
     if (stray.due != 0)
@@ -298,6 +301,7 @@ static void offer_event(void)
 // A reset of the transport: the connections are gone, and the number may be another one (5.10.6.7).
 static int is_reset(void)
 {
+    ask_for_interrupt(EVENTS);
     if (queues[EVENTS].used.idx == events)
         return 0;
     events++;

@@ -9,6 +9,7 @@ import sys
 import time
 
 from guest import SECONDS, TOP, Guest, Helper, until
+from machine import EVENTS, TABLES
 
 FRAMES = f"{TOP}/guests/frames"
 TEXT = "a text of the host\nand its second line\n"
@@ -61,9 +62,10 @@ def behind_qemu(checks, folder):
     for end in "user", "stream":
         words += ["-netdev", f"hubport,hubid=0,netdev={end},id={end}-port"]
     with Helper(["bash", "-c", "exec " + text_server(folder, port)]), Helper(words, f"{folder}/link", stderr=subprocess.DEVNULL):
-        for name, number in ("polls", port), ("waits", port | WAITS):
-            with Guest(f"{folder}/{name}", "lease", number, link=f"{folder}/link", trace="trace") as guest:
-                fetches(checks, guest, f"QEMU's network, a guest that {name}", "10.0.2.15", "10.0.2.2", "52:55:0a:00:02:02")
+        for image in "lease", "lease_indirect":
+            for name, number in ("polls", port), ("waits", port | WAITS):
+                with Guest(f"{folder}/{image}_{name}", image, number, link=f"{folder}/link", trace="trace") as guest:
+                    fetches(checks, guest, f"QEMU's network, {image}, which {name}", "10.0.2.15", "10.0.2.2", "52:55:0a:00:02:02")
 
 
 def behind_passt(checks, folder):
@@ -311,12 +313,14 @@ def floods(checks, folder):
 
 
 def replayed(checks, folder):
-    """The replay of a trace writes the snapshot that the served machine wrote, of guests that send or take frames with limits."""
-    for name, limits in ("tx", ""), ("rx", ""), ("tx", limited("tx")), ("rx", limited("rx")):
-        where = f"{folder}/{name}{len(limits)}"
+    """The replay of a trace writes the snapshot that the served machine wrote, of guests that send or take frames with limits, or by tables of
+    descriptors and the indexes of events."""
+    both = TABLES | EVENTS
+    for name, limits, features in ("tx", "", 0), ("rx", "", 0), ("tx", "", both), ("rx", "", both), ("tx", limited("tx"), 0), ("rx", limited("rx"), 0):
+        where = f"{folder}/{name}{len(limits)}{features}"
         os.makedirs(where)
         peer = Peer(f"{where}/link")
-        number = WAITS | 400 << 40 | (1 << 40) - 1 | (name == "rx") * RECEIVES
+        number = WAITS | features | 400 << 40 | (1 << 40) - 1 | (name == "rx") * RECEIVES
         with Guest(f"{where}/guest", "traffic", number, link=f"{where}/link", limits=limits, trace="trace") as guest:
             try:
                 peer.accept()
@@ -325,7 +329,8 @@ def replayed(checks, folder):
                         peer.stream.sendall(told(bytes(400)))
                     else:
                         peer.frame()
-                checks.same(f"{name}, {'limits' if limits else 'no limits'}: the replay's snapshot", True, guest.is_replayed())
+                how = "limits" if limits else "tables and events" if features else "no limits"
+                checks.same(f"{name}, {how}: the replay's snapshot", True, guest.is_replayed())
             finally:
                 peer.close()
 

@@ -91,8 +91,8 @@ def opened(path, port):
     return made
 
 
-def guest_in(folder, number=WAITS, **more):
-    made = Guest(folder, "vsock", number, vsock="v.sock", **more)
+def guest_in(folder, number=WAITS, image="vsock", **more):
+    made = Guest(folder, image, number, vsock="v.sock", **more)
     assert made.shows(BEGUN), "the guest doesn't begin"
     assert until(lambda: os.path.exists(f"{folder}/v.sock")), "there is no socket"
     return made
@@ -179,25 +179,30 @@ def generated(count):
 
 
 def a_mebibyte(checks, folder):
-    """1 MiB each way, byte for byte: to the guest and back, from the guest alone, and to it alone."""
-    with guest_in(folder) as guest:
-        path = f"{folder}/v.sock"
-        sent = random.Random(7).randbytes(MIB)
-        echo = opened(path, ECHO)
-        writer = threading.Thread(target=echo.stream.sendall, args=(sent,))
-        writer.start()
-        checks.same("1 MiB to the guest and back", True, echo.taken(MIB) == sent)
-        writer.join()
-        echo.close()
-        made = opened(path, GENERATE)
-        checks.same("1 MiB of the guest", True, made.taken(MIB) == generated(MIB))
-        made.close()
-        drops = opened(path, DISCARD)
-        drops.stream.sendall(sent)
-        checks.same("1 MiB to the guest", [], select.select([drops.stream], [], [], 0)[0])
-        drops.close()
-        checks.same("behind 3 MiB it is well", True, is_well(path))
-        checks.same("behind 3 MiB it is served", True, guest.is_served())
+    """1 MiB each way, byte for byte: to the guest and back, from the guest alone, and to it alone. Once more by tables of descriptors and the
+    indexes of events."""
+    for image in "vsock", "vsock_indirect":
+        with guest_in(f"{folder}/{image}", image=image) as guest:
+            moves_a_mebibyte(checks, guest, f"{folder}/{image}/v.sock")
+
+
+def moves_a_mebibyte(checks, guest, path):
+    sent = random.Random(7).randbytes(MIB)
+    echo = opened(path, ECHO)
+    writer = threading.Thread(target=echo.stream.sendall, args=(sent,))
+    writer.start()
+    checks.same("1 MiB to the guest and back", True, echo.taken(MIB) == sent)
+    writer.join()
+    echo.close()
+    made = opened(path, GENERATE)
+    checks.same("1 MiB of the guest", True, made.taken(MIB) == generated(MIB))
+    made.close()
+    drops = opened(path, DISCARD)
+    drops.stream.sendall(sent)
+    checks.same("1 MiB to the guest", [], select.select([drops.stream], [], [], 0)[0])
+    drops.close()
+    checks.same("behind 3 MiB it is well", True, is_well(path))
+    checks.same("behind 3 MiB it is served", True, guest.is_served())
 
 
 def misbehave(checks, folder):

@@ -81,6 +81,9 @@ nothing_past bytes short =
     let none : drop 8 bytes ≡ [] = grind (arith, common_steps) in
     rw none refl
 
+has_of : (n m : ℕ) → bit_and n m ≡ m → has_bits n m ≡ true
+has_of n m is = grind arith
+
 -- both bits are among these, or as among others
 with_both : (n : ℕ) → offers_alike (bit_or n queue_features) ≡ true
 with_both n =
@@ -94,9 +97,6 @@ with_both n =
     within n m is =
         ap (λ x. bit_and (bit_or n queue_features) x) (sym is) ∙ sym (and_assoc m (bit_or n queue_features) queue_features)
         ∙ ap (λ x. bit_and x m) (and_or_self queue_features n) ∙ is
-
-has_of : (n m : ℕ) → bit_and n m ≡ m → has_bits n m ≡ true
-has_of n m is = grind arith
 
 -- VIRTIO_F_VERSION_1 is none of the two
 versioned_alike : (n : ℕ) → offers_alike n ≡ true → offers_alike (bit_or n (feature_mask Version1)) ≡ true

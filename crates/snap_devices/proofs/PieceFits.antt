@@ -1,5 +1,5 @@
 -- The parts of a device in the fields of a file: what is kept of a queue, a walk and a chain fits, where each number has its width.
-use Rattle.std.proofs.Common.{◌≡◌, ◌≤◌, ◌<◌, ◌^◌, ℕ, suc, ◌*◌, ◌==◌, Bool, true, false, if◌then◌else◌, refl, sym, subst, arith, List, [], ◌∷◌, length, Option, Some, None}
+use Rattle.std.proofs.Common.{◌≡◌, ◌≤◌, ◌<◌, ◌^◌, ℕ, suc, ◌*◌, ◌==◌, Bool, true, false, refl, sym, subst, arith, List, [], ◌∷◌, length, Option, Some, None}
 use Rattle.std.specs.Prelude.{IfSome}
 use Rattle.std.specs.List.{All}
 use Rattle.std.proofs.lemmas.Bool.{and_parts, eqb-true, le-leb}
@@ -44,7 +44,7 @@ use Rattle.block_device.proofs.Kept.{ArePart}
 use Rattle.snap_devices.specs.Limits.{chain, chain_fields, chain_marks, maybe_chain, no_chain}
 use Rattle.snap_devices.specs.Marks.{accepted_code, at_code, at_queue, feature_code, marked, marked_by, maybe, maybe_by, of_queue, queue_code, which_at, which_at-is, which_code}
 use Rattle.snap_devices.specs.Phases.{break_stage, return_stage}
-use Rattle.snap_devices.specs.Queues.{collect, held, maybe_queue, part, parts, queue, queue_marks, registers, registers_of, table, walk, walk_fields, walk_stage}
+use Rattle.snap_devices.specs.Queues.{collect, held, maybe_queue, part, parts, piece, queue, queue_marks, registers, registers_of, table, walk, walk_fields, walk_stage}
 
 -- ---- queues and parts, in a guest of at most 2^20 pages
 
@@ -172,7 +172,7 @@ entry_fits q t at ps is =
     fits16 at (omega (arith, there, most))
 
 stage_fits : (s : Stage) (q : Queue) (ps : List Part) → IsStage s q ps → IsNarrowStage s → q.size ≤ 256 → q.pages ≤ 2 ^ 20 → walk_stage.Fits s
-unfolding walk_stage
+unfolding walk_stage piece
 stage_fits Index q ps is narrow most few = (fits8 0 (omega arith), refl)
 stage_fits Ring q ps is narrow most few = (fits8 1 (omega arith), refl)
 stage_fits (Link head at) q ps is narrow most few =
@@ -188,7 +188,7 @@ stage_fits (EntryRest head t at front) q ps is narrow most few =
       (
         refl,
         (
-          fits16 head narrow,
+          fits16 head narrow.0,
           (table_fits q t at ps is.0 few, (entry_fits q t at ps is.0, (fits_bytes front (omega (arith, short)), le-leb (length front) 64 short))),
         ),
       ),

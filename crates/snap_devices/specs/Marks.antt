@@ -96,10 +96,12 @@ module _ {K : Type 0} (code : K → ℕ) (at : ℕ → Option K) (at-is : (n : �
   mark_is n None second k a low high is = absurd (cc)
   mark_is n (Some j) None k a low high is = absurd (cc)
   mark_is n (Some j) (Some b) k a low high is =
-      let same : (j, b) ≡ (k, a) = cc in
+      let parts : n ≡ n % 4 + 4 * (n / 4) = omega arith in
+      let first : K × Accepted = (j, b) in
+      let second : K × Accepted = (k, a) in
+      let same : first ≡ second = cc in
       let one : n % 4 ≡ code k = at-is (n % 4) j low ∙ ap (λ (p : K × Accepted). code p.0) same in
       let four : n / 4 ≡ accepted_code a = accepted_at-is (n / 4) b high ∙ ap (λ (p : K × Accepted). accepted_code p.1) same in
-      let parts : n ≡ n % 4 + 4 * (n / 4) = omega arith in
       parts ∙ ap₂ (λ (x y : ℕ). x + 4 * y) one four
 
   pub mark_at-is : (n : ℕ) (k : K) (a : Accepted) → mark_at n ≡ Some (k, a) → n ≡ mark_code k a

@@ -1,5 +1,5 @@
 -- A network device as bytes.
-use Rattle.std.specs.Prelude.{◌≡◌, ℕ, zero, suc, List, [], length, refl}
+use Rattle.std.specs.Prelude.{◌≡◌, ℕ, zero, suc, List, [], refl}
 use Rattle.std.proofs.Common.{sym, ap}
 use Rattle.file_format.specs.Format.{Format}
 use Rattle.file_format.specs.Kinds.{byte, number64, byte_list, just, nothing, variant, chosen_by, passing}

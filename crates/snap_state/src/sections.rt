@@ -1,5 +1,6 @@
 // What stands in the sections of a state file.
-ghost use Rattle.std.specs.Prelude.{◌≡◌, ◌++◌, IfOk, OnOk, map};
+ghost use Rattle.std.specs.Prelude.{◌≡◌, IfOk, map};
+ghost use Rattle.std.specs.Int.{w32, to_le_bytes};
 ghost use Rattle.std.specs.List.{list_any};
 ghost use Rattle.std.specs.Str.{bytes_eq};
 ghost use Rattle.snap_state.specs.Sections.{are_sections, is_offering, is_section, offering, offering_byte, offering_bytes, sections_of};
@@ -14,9 +15,6 @@ use vm_types::ByteList;
 
 // The tag of the list that tells which devices offer indirect descriptors and the event index.
 const OFFERING_TAG: u32 = 1;
-
-// How many bytes stand before the list's items: their number.
-const COUNT_LENGTH: usize = 4;
 
 fn is_offering(port: &Port) -> bool
     ensures { result ≡ is_offering port.now }
@@ -37,28 +35,40 @@ fn has_offering(ports: &[Counted<Saved<Port>>]) -> bool
     ports.iter().any(|port| is_offering(&port.value.value))
 }
 
+// How many items the list has, as it says before them.
+fn count_bytes(count: usize) -> [u8; 4]
+    ensures { result ≡ to_le_bytes w32 count }
+{
+    let bytes = (count as u64).to_le_bytes();
+    [bytes[0], bytes[1], bytes[2], bytes[3]]
+}
+
 // Whether these are the list's items.
 fn are_items(ports: &[Counted<Saved<Port>>], bytes: &[u8]) -> bool
     ensures { result ≡ bytes_eq bytes.now (map offering_byte ports.now) }
 {
-    if bytes.len() != ports.len() {
-        return false;
-    }
-    for (k, port) in ports.iter().enumerate() {
-        if bytes[k] != offering_byte(&port.value.value) {
+    let mut left = bytes;
+    for port in ports {
+        let Some((first, others)) = left.split_first() else {
+            return false;
+        };
+        if *first != offering_byte(&port.value.value) {
             return false;
         }
+        left = others;
     }
-    true
+    left.is_empty()
 }
 
 // Whether these are the bytes of the list.
 fn are_offering_bytes(ports: &[Counted<Saved<Port>>], bytes: &[u8]) -> bool
     ensures { result ≡ bytes_eq bytes.now (offering_bytes ports.now) }
 {
-    COUNT_LENGTH <= bytes.len()
-        && bytes[..COUNT_LENGTH] == (ports.len() as u32).to_le_bytes()
-        && are_items(ports, &bytes[COUNT_LENGTH..])
+    let count = count_bytes(ports.len());
+    match bytes.strip_prefix(&count) {
+        Some(items) => are_items(ports, items),
+        None => false,
+    }
 }
 
 fn is_section(ports: &[Counted<Saved<Port>>], section: &Section) -> bool
@@ -83,7 +93,7 @@ pub fn are_sections(ports: &[Counted<Saved<Port>>], sections: &[Section]) -> boo
 fn offering_bytes(alloc: Global, ports: &[Counted<Saved<Port>>]) -> Result<ByteList, AllocError>
     ensures { IfOk result (λ bytes. bytes ≡ offering_bytes ports.now) }
 {
-    let mut bytes = ByteList::copy_of(alloc, &(ports.len() as u32).to_le_bytes())?;
+    let mut bytes = ByteList::copy_of(alloc, &count_bytes(ports.len()))?;
     for port in ports {
         bytes.append(&[offering_byte(&port.value.value)])?;
     }
