@@ -23,7 +23,7 @@ def common_front(whole, cut):
 
 
 def least_room(program, folder):
-    """The least address space, in pages, in which the program answers a line; 0 where it takes more than there is reason for."""
+    """The least memory for data, in pages, in which the program answers a line; 0 where it takes more than there is reason for."""
     low, high = 0, LARGEST >> 12
     if not answers_in(program, folder, high):
         return 0
@@ -39,7 +39,8 @@ def answers_in(program, folder, pages):
 
 
 def scarce_words(program, pages):
-    return ["/usr/bin/prlimit", f"--as={pages << 12}", program, "replay"]
+    # (a bound of the whole address space would end it where its stack grows, which is no allocation)
+    return ["/usr/bin/prlimit", f"--data={pages << 12}", program, "replay"]
 
 
 def traced_words(program, log, *more):

@@ -74,6 +74,11 @@ VALUES = [None, True, False, 0, 1, -1, 1.0, 1e3, *TEXTS, [], [1], {}, {"a": 1}]
 LIMITER = {"bandwidth": {"size": 100, "refill_time": 10, "one_time_burst": 5}, "ops": {"size": 0, "refill_time": 1}}
 DRIVE = {"drive_id": "d", "path_on_host": "disk", "is_root_device": True, "is_read_only": False, "cache_type": "Writeback"}
 SAVE = ("PUT", "/snapshot/create", {"snapshot_path": "s", "mem_file_path": "m", "snapshot_type": "Full"})
+# Where a memory file says that a merge is unfinished.
+MERGING = 32
+# A start whose image doesn't fit in memory.
+TOO_LARGE = [("/machine-config", '{"vcpu_count":1,"mem_size_mib":4}'), ("/boot-source", '{"kernel_image_path":"big"}'),
+             ("/actions", '{"action_type":"InstanceStart"}')]
 # The calls of the API with the fields of their bodies.
 CALLS = [
     ("PUT", "/boot-source", {"kernel_image_path": "k", "initrd_path": "i", "boot_args": "a b"}),
@@ -204,6 +209,8 @@ class Inputs:
             lines.append(api_line(*changed_call(chance, 0.3)))
         if chance.random() < 0.02:
             lines += drives_up_to(chance.choice([15, 16, 17]))
+        if chance.random() < 0.02:
+            lines += [api_line("PUT", path, body) for path, body in TOO_LARGE]
         for method, path, fields in START[: chance.randint(0, len(START))]:
             lines.append(api_line(method, path, json.dumps(fields)))
         for _ in range(chance.randint(1, 10)):
@@ -294,6 +301,8 @@ def changes_of(chance, names):
     changes = []
     if "m0" in names and chance.random() < 0.02:
         changes.append(("m0", "slots", 0, 0))
+    if "m0" in names and chance.random() < 0.02:
+        changes.append(("m0", "byte", MERGING, 1))
     for _ in range(chance.choice([0, 1, 1, 2, 3]) if names else 0):
         what = chance.random()
         name = chance.choice(names)

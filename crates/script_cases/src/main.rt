@@ -10,8 +10,8 @@
 //! their trace on one thread stands as they left theirs (`slicing`); that a guest which is served over objects in memory
 //! comes to its end, that the replay of its trace answers the same, and which object is named where a call of it fails
 //! (`serving`, `flushing`); how much of a file that is no state file a load reads (`foreign`); what is left of a create or a merge
-//! that is stopped at each of its calls, and what a load or a merge makes of it (`stopping`); and how the objects in memory cut
-//! bytes into pieces. None of them depends on the schedule.
+//! that is stopped at each of its calls, and what a load or a merge makes of it (`stopping`); how many pages of memory some scripts
+//! make (`made`); and how the objects in memory cut bytes into pieces. None of them depends on the schedule.
 //!
 //! Read `given` and `case`, what a case says; then `replaying`, and `difference` for what is compared. Of what is served read
 //! `sessions` first.
@@ -26,6 +26,7 @@ mod given;
 mod held;
 mod images;
 mod listing;
+mod made;
 mod pieces;
 mod playing;
 mod replaying;
@@ -69,6 +70,7 @@ fn print_all<R: Threads + Wait + Files + Print + AllocGlobal + Clone + Drop + Sy
     flushing::print(rt)?;
     foreign::print(rt)?;
     stopping::print(rt)?;
+    made::print(rt)?;
     replay_all(rt)
 }
 
