@@ -14,18 +14,16 @@ use Rattle.vm_config.specs.declared.config.Config.{Config}
 use Rattle.vm_config.specs.declared.config.Phase.{Phase}
 use Rattle.vm_config.specs.declared.statistics.Statistics.{Statistics}
 use Rattle.vm_config.specs.Devices.{balloon_device}
-use Rattle.vm_config.specs.declared.change.Change.{Change}
-use Rattle.vm_config.specs.declared.change.Change.TheVariants as change
 use Rattle.api_rules.specs.declared.answer.Answer.{Answer}
 use Rattle.api_rules.specs.declared.ids.Ids.{Ids}
-use Rattle.api_rules.specs.Table.{change_of, decision, first_refusal, has_started, is_diff, is_paused, misplaced, own_refusal, unless, when_allowed}
+use Rattle.api_rules.specs.Table.{decision, first_refusal, has_started, is_diff, is_paused, misplaced, own_refusal, unless, when_allowed}
 use Rattle.responses.specs.Responses.{Response}
 use Rattle.flat_guest.specs.Guest.{Guest}
 use Rattle.flat_snapshot.proofs.Finds.{both}
 use Rattle.flat_machine.specs.Balloon.{TellsBalloon}
 use Rattle.flat_machine.specs.Machine.{Machine, phase_by, phase_of}
 use Rattle.flat_machine.specs.Requests.{AnswersBy, Responds, allowed, by_contents, decided, file_refusal}
-use Rattle.flat_machine.proofs.Allowed.{not_refused, same_change}
+use Rattle.flat_machine.proofs.Allowed.{not_refused, same_call}
 use Rattle.flat_machine.proofs.Between.{IsLater, at_its_time, started}
 use Rattle.alike_runs.specs.Alike.{Alike}
 use Rattle.alike_runs.specs.Twins.{Twins}
@@ -34,14 +32,13 @@ use Rattle.alike_runs.proofs.Guests.{tells_too}
 
 -- ---- which calls are allowed of a machine that has started
 
-later_is : (m : Machine) (given : Next) (it : Change) → has_started (phase_of m) ≡ true → decided m given ≡ Ok it → IsLater it
+later_is : (m : Machine) (given : Next) (it : ApiCall) → has_started (phase_of m) ≡ true → decided m given ≡ Ok it → IsLater it
 later_is m (next.Request r) it has is =
     let asked = both (call_of r) (decision (phase_of m) m.config m.ids) it is in
-    let due : Change = change_of m.config asked.0 in
     let own : Option Refusal = own_refusal (phase_of m) m.config m.ids asked.0 in
-    let placed = not_refused (misplaced (when_allowed asked.0) (phase_of m)) (unless own (Ok due)) it asked.2 in
-    let taken = not_refused own (Ok due) it placed.1 in
-    subst IsLater (same_change due it taken.1) (at_its_time (phase_of m) m.config asked.0 has placed.0)
+    let placed = not_refused (misplaced (when_allowed asked.0) (phase_of m)) (unless own (Ok asked.0)) it asked.2 in
+    let taken = not_refused own (Ok asked.0) it placed.1 in
+    subst IsLater (same_call asked.0 it taken.1) (at_its_time (phase_of m) (when_allowed asked.0) has placed.0)
 later_is m (next.Bad why) it has is = absurd cc
 later_is m next.None it has is = absurd cc
 
@@ -49,22 +46,6 @@ later_is m next.None it has is = absurd cc
 
 own_alike : (p : Phase) (config : Config) (a b : Ids) (c : ApiCall) → is_none a.base ≡ is_none b.base → a.next ≡ b.next
     → own_refusal p config a c ≡ own_refusal p config b c
-own_alike p config a b (call.PutBootSource source) none number = refl
-own_alike p config a b (call.PutDrive drive) none number = refl
-own_alike p config a b (call.PatchDrive patch) none number = refl
-own_alike p config a b (call.PutInterface interface) none number = refl
-own_alike p config a b (call.PatchInterface patch) none number = refl
-own_alike p config a b (call.PutMachineConfig machine) none number = refl
-own_alike p config a b (call.PatchMachineConfig patch) none number = refl
-own_alike p config a b (call.PutVsock vsock) none number = refl
-own_alike p config a b (call.PutBalloon balloon) none number = refl
-own_alike p config a b (call.PatchBalloon patch) none number = refl
-own_alike p config a b (call.PatchStatistics patch) none number = refl
-own_alike p config a b (call.PutMmdsConfig mmds) none number = refl
-own_alike p config a b (call.PutMetadata body) none number = refl
-own_alike p config a b (call.PatchMetadata patch) none number = refl
-own_alike p config a b call.InstanceStart none number = refl
-own_alike p config a b (call.PatchVm state) none number = refl
 own_alike p config a b (call.CreateSnapshot it) none number =
     λ i. first_refusal (
     (not (is_paused p), refusal.NotPaused)
@@ -73,8 +54,7 @@ own_alike p config a b (call.CreateSnapshot it) none number =
     ∷ (nat_le (2 ^ 63) (number i), refusal.NoSlotLeft)
     ∷ []
     )
-own_alike p config a b (call.LoadSnapshot load) none number = refl
-own_alike p config a b (call.Get part) none number = refl
+own_alike p config a b it none number = refl
 
 -- ---- both have started
 
@@ -92,7 +72,7 @@ module _ (twins : List Twins) (m n : Machine) (alike : Alike twins m n) where
 
   decision_alike : (c : ApiCall) → decision (phase_of m) m.config m.ids c ≡ decision (phase_of n) n.config n.ids c
   decision_alike c =
-      ap (λ (r : Option Refusal). unless (misplaced (when_allowed c) (phase_of m)) (unless r (Ok (change_of m.config c))))
+      ap (λ (r : Option Refusal). unless (misplaced (when_allowed c) (phase_of m)) (unless r (Ok c)))
       (own_alike (phase_of m) m.config m.ids n.ids c (base_none twins m.ids.base n.ids.base alike.base) alike.next)
       ∙ (λ i. decision (phase_alike i) (alike.config i) n.ids c)
 
@@ -107,36 +87,23 @@ module _ (twins : List Twins) (m n : Machine) (alike : Alike twins m n) where
       ap (λ (b : Bool). if b then None else Some refusal.NoSuchFile)
       (file_there twins (get m.saved path) (get n.saved path) (alike.saved path))
 
-  contents_alike : (it : Change) → IsLater it → by_contents m it ≡ by_contents n it
-  contents_alike (change.BootSource source) later = absurd later
-  contents_alike (change.PutDrive drive) later = absurd later
-  contents_alike (change.PatchDrive patch) later =
-      ap (λ (r : Option Refusal). unless r (Ok (change.PatchDrive patch))) (there_by patch.path_on_host)
-  contents_alike (change.PutInterface interface) later = absurd later
-  contents_alike (change.PatchInterface patch) later = refl
-  contents_alike (change.MachineConfig machine) later = absurd later
-  contents_alike (change.PutVsock vsock) later = absurd later
-  contents_alike (change.PutBalloon balloon) later = absurd later
-  contents_alike (change.PatchBalloon patch) later = refl
-  contents_alike (change.PatchStatistics patch) later = refl
-  contents_alike change.Start later = absurd later
-  contents_alike (change.State state) later = refl
-  contents_alike (change.CreateSnapshot it) later = refl
-  contents_alike (change.LoadSnapshot load) later = absurd later
-  contents_alike (change.MmdsConfig mmds) later = absurd later
-  contents_alike (change.PutMetadata body) later = refl
-  contents_alike (change.PatchMetadata patch) later =
-      ap (λ (d : Data). patched d patch >>= (λ (kept : Data). Ok (change.PatchMetadata patch))) alike.metadata
-  contents_alike (change.Tell part) later = refl
+  contents_alike : (it : ApiCall) → IsLater it → by_contents m it ≡ by_contents n it
+  contents_alike (call.PatchDrive patch) later =
+      ap (λ (r : Option Refusal). unless r (Ok (call.PatchDrive patch))) (there_by patch.path_on_host)
+  contents_alike call.InstanceStart later = absurd later
+  contents_alike (call.LoadSnapshot load) later = absurd later
+  contents_alike (call.PatchMetadata patch) later =
+      ap (λ (d : Data). patched d patch >>= (λ (kept : Data). Ok (call.PatchMetadata patch))) alike.metadata
+  contents_alike it later = refl
 
-  contents_by : (given : Next) (r : Result Change Refusal) → decided m given ≡ r → (r >>= by_contents m) ≡ (r >>= by_contents n)
+  contents_by : (given : Next) (r : Result ApiCall Refusal) → decided m given ≡ r → (r >>= by_contents m) ≡ (r >>= by_contents n)
   contents_by given (Ok it) is = contents_alike it (later_is m given it (started alike.g m alike.first) is)
   contents_by given (Err why) is = refl
 
   pub allowed_alike : (given : Next) → allowed m given ≡ allowed n given
   allowed_alike given =
       contents_by given (decided m given) refl
-      ∙ ap (λ (r : Result Change Refusal). r >>= by_contents n) (decided_alike given)
+      ∙ ap (λ (r : Result ApiCall Refusal). r >>= by_contents n) (decided_alike given)
 
   -- a balloon tells the same
   tells_alike : (s : Option Statistics) → TellsBalloon m.guest (balloon_device m.config) s → TellsBalloon n.guest (balloon_device n.config) s
@@ -146,7 +113,7 @@ module _ (twins : List Twins) (m n : Machine) (alike : Alike twins m n) where
       (tells_too alike.g alike.h alike.guests (balloon_device m.config) s
       (subst (λ (o : Option Guest). TellsBalloon o (balloon_device m.config) s) alike.first is)))
 
-  pub answers_alike : (r : Result Change Refusal) (answer : Answer) → AnswersBy m r answer → AnswersBy n r answer
+  pub answers_alike : (r : Result ApiCall Refusal) (answer : Answer) → AnswersBy m r answer → AnswersBy n r answer
   answers_alike (Ok it) answer (told, tells, is) = (
     told,
     record {
@@ -163,6 +130,6 @@ module _ (twins : List Twins) (m n : Machine) (alike : Alike twins m n) where
   pub responds_alike : (given : Next) (said : List Response) → Responds m given said → Responds n given said
   responds_alike given said (answer, by, is) = (
     answer,
-    answers_alike (allowed n given) answer (subst (λ (r : Result Change Refusal). AnswersBy m r answer) (allowed_alike given) by),
+    answers_alike (allowed n given) answer (subst (λ (r : Result ApiCall Refusal). AnswersBy m r answer) (allowed_alike given) by),
     is,
   )

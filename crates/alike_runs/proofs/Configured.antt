@@ -19,8 +19,8 @@ use Rattle.api_calls.specs.declared.limiter.Limiter.{Limiter}
 use Rattle.api_calls.specs.declared.call.SnapshotCreate.{SnapshotCreate}
 use Rattle.api_calls.specs.declared.call.SnapshotLoad.{SnapshotLoad}
 use Rattle.api_calls.specs.declared.call.VmState.TheVariants.{Paused, Resumed}
-use Rattle.vm_config.specs.declared.change.Change.{Change}
-use Rattle.vm_config.specs.declared.change.Change.TheVariants as change
+use Rattle.api_calls.specs.declared.call.ApiCall.{ApiCall}
+use Rattle.api_calls.specs.declared.call.ApiCall.TheVariants as call
 use Rattle.vm_config.specs.Changes.{with_amount, with_interval}
 use Rattle.vm_config.specs.Devices.{balloon_device, interface_device}
 use Rattle.vm_config.specs.Drives.{device_of}
@@ -61,7 +61,7 @@ same m n is own = subst Configured (sym is) own
 kept : (m n : Machine) → is_some n.guest ≡ is_some m.guest → n.config.configured ≡ m.config.configured → Configured m → Configured n
 kept m n guest config own there = config ∙ own (sym guest ∙ there)
 
--- ---- what changes leave
+-- ---- what calls leave
 
 told_there : (number : Option ℕ) (change : DeviceChange) (shows : Option PortState → Option (List ℕ)) (o : Option Guest)
     → is_some (told_at number change shows o) ≡ is_some o
@@ -116,72 +116,52 @@ store_kept : (due : Result Data Refusal) (m n : Machine) → Stores due m n → 
 store_kept (Ok data_is) m n is own = kept m n (ap (λ (q : Machine). is_some q.guest) is) (ap (λ (q : Machine). q.config.configured) is) own
 store_kept (Err why) m n is own = same m n is own
 
-leaves_kept : (it : Change) (m n : Machine) → Leaves m it n → Configured m → Configured n
-leaves_kept (change.BootSource source) m n is own = λ there. ap (λ (q : Machine). q.config.configured) is
-leaves_kept (change.PutDrive drive) m n is own = λ there. ap (λ (q : Machine). q.config.configured) is
-leaves_kept (change.PatchDrive patch) m n is own =
+leaves_kept : (it : ApiCall) (m n : Machine) → Leaves m it n → Configured m → Configured n
+leaves_kept (call.PatchDrive patch) m n is own =
     let number : Option ℕ = device_of m.config.drives patch.drive_id in
     kept m n
     (ap (λ (q : Machine). is_some q.guest) is
     ∙ relimited_there limits_told patch.rate_limiter number (resized patch.path_on_host number m.saved m.guest)
     ∙ resized_there patch.path_on_host number m.saved m.guest)
     (ap (λ (q : Machine). q.config.configured) is) own
-leaves_kept (change.PutInterface interface) m n is own = λ there. ap (λ (q : Machine). q.config.configured) is
-leaves_kept (change.PatchInterface patch) m n is own =
+leaves_kept (call.PatchInterface patch) m n is own =
     let number : Option ℕ = interface_device m.config patch.iface_id in
     kept m n
     (ap (λ (q : Machine). is_some q.guest) is
     ∙ relimited_there transmits_told patch.tx_rate_limiter number (relimited receives_told patch.rx_rate_limiter number m.guest)
     ∙ relimited_there receives_told patch.rx_rate_limiter number m.guest)
     (ap (λ (q : Machine). q.config.configured) is) own
-leaves_kept (change.MachineConfig machine) m n is own = λ there. ap (λ (q : Machine). q.config.configured) is
-leaves_kept (change.PutVsock vsock) m n is own = λ there. ap (λ (q : Machine). q.config.configured) is
-leaves_kept (change.PutBalloon balloon) m n is own = λ there. ap (λ (q : Machine). q.config.configured) is
-leaves_kept (change.PatchBalloon patch) m n is own =
+leaves_kept (call.PatchBalloon patch) m n is own =
     kept m n
     (ap (λ (q : Machine). is_some q.guest) is
     ∙ retargeted_there (with_amount patch m.config.balloon) (balloon_device m.config) m.guest)
     (ap (λ (q : Machine). q.config.configured) is) own
-leaves_kept (change.PatchStatistics patch) m n is own =
+leaves_kept (call.PatchStatistics patch) m n is own =
     kept m n
     (ap (λ (q : Machine). is_some q.guest) is
     ∙ retimed_there (with_interval patch m.config.balloon) (balloon_device m.config) m.guest)
     (ap (λ (q : Machine). q.config.configured) is) own
-leaves_kept change.Start m n is own = λ there. ap (λ (q : Machine). q.config.configured) is
-leaves_kept (change.State Paused) m n is own =
+leaves_kept (call.PatchVm Paused) m n is own =
     kept m n (ap (λ (q : Machine). is_some q.guest) is ∙ halted_there m.paused m.guest) (ap (λ (q : Machine). q.config.configured) is) own
-leaves_kept (change.State Resumed) m n is own =
+leaves_kept (call.PatchVm Resumed) m n is own =
     kept m n (ap (λ (q : Machine). is_some q.guest) is) (ap (λ (q : Machine). q.config.configured) is) own
-leaves_kept (change.CreateSnapshot it) m n (devices, x) own = create_kept m.guest m it devices n refl x own
-leaves_kept (change.LoadSnapshot load) m n x own = load_kept (found m.saved load.files) m load n x own
-leaves_kept (change.MmdsConfig mmds) m n is own = λ there. ap (λ (q : Machine). q.config.configured) is
-leaves_kept (change.PutMetadata body) m n x own = store_kept (put body) m n x own
-leaves_kept (change.PatchMetadata patch) m n x own = store_kept (patched m.metadata patch) m n x own
-leaves_kept (change.Tell part) m n is own = same m n is own
+leaves_kept (call.CreateSnapshot it) m n (devices, x) own = create_kept m.guest m it devices n refl x own
+leaves_kept (call.LoadSnapshot load) m n x own = load_kept (found m.saved load.files) m load n x own
+leaves_kept (call.PutMetadata body) m n x own = store_kept (put body) m n x own
+leaves_kept (call.PatchMetadata patch) m n x own = store_kept (patched m.metadata patch) m n x own
+leaves_kept (call.Get part) m n is own = same m n is own
+leaves_kept it m n is own = λ there. ap (λ (q : Machine). q.config.configured) is
 
-result_kept : (r : Result Change Refusal) (m : Machine) (devices : List Device) (n : Machine) → LeavesBy m r devices n → Configured m → Configured n
+result_kept : (r : Result ApiCall Refusal) (m : Machine) (devices : List Device) (n : Machine) → LeavesBy m r devices n → Configured m → Configured n
 result_kept (Ok it) m devices n x own = leaves_kept it m n (leaves_of it m devices n x) own
 result_kept (Err why) m devices n x own = same m n x.1 own
 
-failed_kept : (it : Change) (m : Machine) (left : Left) (n : Machine) → Fails m it left n → Configured m → Configured n
-failed_kept (change.BootSource source) m left n x own = absurd x
-failed_kept (change.PutDrive drive) m left n x own = absurd x
-failed_kept (change.PatchDrive patch) m left n x own = same m n x.3 own
-failed_kept (change.PutInterface interface) m left n x own = absurd x
-failed_kept (change.PatchInterface patch) m left n x own = absurd x
-failed_kept (change.MachineConfig machine) m left n x own = absurd x
-failed_kept (change.PutVsock vsock) m left n x own = absurd x
-failed_kept (change.PutBalloon balloon) m left n x own = absurd x
-failed_kept (change.PatchBalloon patch) m left n x own = absurd x
-failed_kept (change.PatchStatistics patch) m left n x own = absurd x
-failed_kept change.Start m left n x own = same m n x.1 own
-failed_kept (change.State state) m left n x own = absurd x
-failed_kept (change.CreateSnapshot it) m left n x own = fails_kept m.guest m it left n x own
-failed_kept (change.LoadSnapshot load) m left n x own = same m n x.1 own
-failed_kept (change.MmdsConfig mmds) m left n x own = absurd x
-failed_kept (change.PutMetadata body) m left n x own = absurd x
-failed_kept (change.PatchMetadata patch) m left n x own = absurd x
-failed_kept (change.Tell part) m left n x own = absurd x
+failed_kept : (it : ApiCall) (m : Machine) (left : Left) (n : Machine) → Fails m it left n → Configured m → Configured n
+failed_kept (call.PatchDrive patch) m left n x own = same m n x.3 own
+failed_kept call.InstanceStart m left n x own = same m n x.1 own
+failed_kept (call.CreateSnapshot it) m left n x own = fails_kept m.guest m it left n x own
+failed_kept (call.LoadSnapshot load) m left n x own = same m n x.1 own
+failed_kept it m left n x own = absurd x
 
 request_kept : (how : Outcome) (given : Next) (m : Machine) (said : List Response) (n : Machine) → RequestStep how given m said n → Configured m → Configured n
 request_kept (Answered devices) given m said n x own = result_kept (allowed m given) m devices n x.1 own

@@ -14,9 +14,10 @@ use Rattle.api_calls.specs.declared.interface.InterfacePatch.{InterfacePatch}
 use Rattle.api_calls.specs.declared.limiter.Limiter.{Limiter}
 use Rattle.api_calls.specs.declared.call.VmState.TheVariants.{Paused, Resumed}
 use Rattle.vm_config.specs.declared.config.Config.{Config}
-use Rattle.vm_config.specs.declared.change.Change.{Change}
-use Rattle.vm_config.specs.declared.change.Change.TheVariants as change
-use Rattle.vm_config.specs.Changes.{changed, with_amount, with_interval}
+use Rattle.api_calls.specs.declared.call.ApiCall.{ApiCall}
+use Rattle.api_calls.specs.declared.call.ApiCall.TheVariants as call
+use Rattle.vm_config.specs.Changes.{with_amount, with_interval}
+use Rattle.api_rules.specs.Table.{changed}
 use Rattle.vm_config.specs.Devices.{balloon_device, interface_device}
 use Rattle.vm_config.specs.Drives.{device_of}
 use Rattle.responses.specs.Responses.{Response}
@@ -71,7 +72,7 @@ led_on front twins k P Q so on = record {
 pub moved : (twins : List Twins) (k q l : Machine) → k ≡ q → Alike twins q l → Alike twins k l
 moved twins k q l is alike = subst (λ (x : Machine). Alike twins x l) (sym is) alike
 
--- ---- what changes leave of guests
+-- ---- what calls leave of guests
 
 same_some : (g h : Guest) → ◌≡◌ {A = Option Guest} (Some g) (Some h) → g ≡ h
 same_some g h is = cc
@@ -140,11 +141,11 @@ module _ (g h : Guest) (guests : AlikeGuests g h) where
   retimed_alike None number o p first second = (g, h, first, second, guests)
   retimed_alike (Some b) number o p first second = at_alike number (interval_told b) (shows_by (interval_told b)) o p tt first second
 
--- ---- what an allowed change leaves
+-- ---- what an allowed call leaves
 
 module _ (twins : List Twins) (m n : Machine) (alike : Alike twins m n) where
-  patched_alike : (patch : DrivePatch) → Alike twins (configured (patched_drive m patch) (change.PatchDrive patch))
-      (configured (patched_drive n patch) (change.PatchDrive patch))
+  patched_alike : (patch : DrivePatch) → Alike twins (configured (patched_drive m patch) (call.PatchDrive patch))
+      (configured (patched_drive n patch) (call.PatchDrive patch))
   patched_alike patch =
       let number : Option ℕ = device_of m.config.drives patch.drive_id in
       let also : device_of n.config.drives patch.drive_id ≡ number =
@@ -156,10 +157,10 @@ module _ (twins : List Twins) (m n : Machine) (alike : Alike twins m n) where
       with_config twins (patched_drive m patch) (patched_drive n patch)
       (with_guest twins m n alike (patched_drive m patch).guest (patched_drive n patch).guest both.0 both.1 both.2
       (ap (λ (o : Option ℕ). relimited limits_told patch.rate_limiter o (resized patch.path_on_host o n.saved n.guest)) also ∙ both.3) both.4)
-      (λ (c : Config). changed c (change.PatchDrive patch))
+      (λ (c : Config). changed c (call.PatchDrive patch))
 
-  limits_alike : (patch : InterfacePatch) → Alike twins (configured (patched_interface m patch) (change.PatchInterface patch))
-      (configured (patched_interface n patch) (change.PatchInterface patch))
+  limits_alike : (patch : InterfacePatch) → Alike twins (configured (patched_interface m patch) (call.PatchInterface patch))
+      (configured (patched_interface n patch) (call.PatchInterface patch))
   limits_alike patch =
       let number : Option ℕ = interface_device m.config patch.iface_id in
       let also : interface_device n.config patch.iface_id ≡ number =
@@ -173,27 +174,27 @@ module _ (twins : List Twins) (m n : Machine) (alike : Alike twins m n) where
       (with_guest twins m n alike (patched_interface m patch).guest (patched_interface n patch).guest both.0 both.1 both.2
       (ap (λ (o : Option ℕ). relimited transmits_told patch.tx_rate_limiter o (relimited receives_told patch.rx_rate_limiter o n.guest)) also ∙ both.3)
       both.4)
-      (λ (c : Config). changed c (change.PatchInterface patch))
+      (λ (c : Config). changed c (call.PatchInterface patch))
 
-  amount_alike : (patch : BalloonPatch) → Alike twins (configured (patched_balloon m patch) (change.PatchBalloon patch))
-      (configured (patched_balloon n patch) (change.PatchBalloon patch))
+  amount_alike : (patch : BalloonPatch) → Alike twins (configured (patched_balloon m patch) (call.PatchBalloon patch))
+      (configured (patched_balloon n patch) (call.PatchBalloon patch))
   amount_alike patch =
       let both = retargeted_alike alike.g alike.h alike.guests (with_amount patch m.config.balloon) (balloon_device m.config) m.guest n.guest
       alike.first alike.second in
       with_config twins (patched_balloon m patch) (patched_balloon n patch)
       (with_guest twins m n alike (patched_balloon m patch).guest (patched_balloon n patch).guest both.0 both.1 both.2
       (ap (λ (c : Config). retargeted (with_amount patch c.balloon) (balloon_device c) n.guest) (sym alike.config) ∙ both.3) both.4)
-      (λ (c : Config). changed c (change.PatchBalloon patch))
+      (λ (c : Config). changed c (call.PatchBalloon patch))
 
-  interval_alike : (patch : StatisticsPatch) → Alike twins (configured (patched_statistics m patch) (change.PatchStatistics patch))
-      (configured (patched_statistics n patch) (change.PatchStatistics patch))
+  interval_alike : (patch : StatisticsPatch) → Alike twins (configured (patched_statistics m patch) (call.PatchStatistics patch))
+      (configured (patched_statistics n patch) (call.PatchStatistics patch))
   interval_alike patch =
       let both = retimed_alike alike.g alike.h alike.guests (with_interval patch m.config.balloon) (balloon_device m.config) m.guest n.guest
       alike.first alike.second in
       with_config twins (patched_statistics m patch) (patched_statistics n patch)
       (with_guest twins m n alike (patched_statistics m patch).guest (patched_statistics n patch).guest both.0 both.1 both.2
       (ap (λ (c : Config). retimed (with_interval patch c.balloon) (balloon_device c) n.guest) (sym alike.config) ∙ both.3) both.4)
-      (λ (c : Config). changed c (change.PatchStatistics patch))
+      (λ (c : Config). changed c (call.PatchStatistics patch))
 
   stores_alike : (due : Result Data Refusal) (k : Machine) → Stores due m k → (l : Machine) × Stores due n l × Alike twins k l
   stores_alike (Ok kept) k is =
@@ -206,58 +207,50 @@ module _ (twins : List Twins) (m n : Machine) (alike : Alike twins m n) where
       with_paused twins m n alike true (halted m.paused m.guest) (halted n.paused n.guest) both.0 both.1 both.2
       (ap (λ (b : Bool). halted b n.guest) (sym alike.paused) ∙ both.3) both.4
 
-  abbrev Leaves : Result Change Refusal → List Device → Machine → Type 0
+  abbrev Leaves : Result ApiCall Refusal → List Device → Machine → Type 0
   Leaves r kept k = Led twins k (λ (l : Machine). LeavesBy n r kept l)
 
-  leaves_alike : (it : Change) (kept : List Device) (k : Machine) → IsLater it → LeavesBy m (Ok it) kept k → Leaves (Ok it) kept k
-  leaves_alike (change.BootSource source) kept k later x = absurd later
-  leaves_alike (change.PutDrive drive) kept k later x = absurd later
-  leaves_alike (change.PatchDrive patch) kept k later (none, is) =
-      let l : Machine = configured (patched_drive n patch) (change.PatchDrive patch) in
-      led twins k l (λ (q : Machine). LeavesBy n (Ok (change.PatchDrive patch)) kept q) (none, refl)
-      (moved twins k (configured (patched_drive m patch) (change.PatchDrive patch)) l is (patched_alike patch))
-  leaves_alike (change.PutInterface interface) kept k later x = absurd later
-  leaves_alike (change.PatchInterface patch) kept k later (none, is) =
-      let l : Machine = configured (patched_interface n patch) (change.PatchInterface patch) in
-      led twins k l (λ (q : Machine). LeavesBy n (Ok (change.PatchInterface patch)) kept q) (none, refl)
-      (moved twins k (configured (patched_interface m patch) (change.PatchInterface patch)) l is (limits_alike patch))
-  leaves_alike (change.MachineConfig machine) kept k later x = absurd later
-  leaves_alike (change.PutVsock vsock) kept k later x = absurd later
-  leaves_alike (change.PutBalloon balloon) kept k later x = absurd later
-  leaves_alike (change.PatchBalloon patch) kept k later (none, is) =
-      let l : Machine = configured (patched_balloon n patch) (change.PatchBalloon patch) in
-      led twins k l (λ (q : Machine). LeavesBy n (Ok (change.PatchBalloon patch)) kept q) (none, refl)
-      (moved twins k (configured (patched_balloon m patch) (change.PatchBalloon patch)) l is (amount_alike patch))
-  leaves_alike (change.PatchStatistics patch) kept k later (none, is) =
-      let l : Machine = configured (patched_statistics n patch) (change.PatchStatistics patch) in
-      led twins k l (λ (q : Machine). LeavesBy n (Ok (change.PatchStatistics patch)) kept q) (none, refl)
-      (moved twins k (configured (patched_statistics m patch) (change.PatchStatistics patch)) l is (interval_alike patch))
-  leaves_alike (change.MmdsConfig mmds) kept k later x = absurd later
-  leaves_alike (change.PutMetadata body) kept k later (none, x) =
+  leaves_alike : (it : ApiCall) (kept : List Device) (k : Machine) → IsLater it → LeavesBy m (Ok it) kept k → Leaves (Ok it) kept k
+  leaves_alike (call.PatchDrive patch) kept k later (none, is) =
+      let l : Machine = configured (patched_drive n patch) (call.PatchDrive patch) in
+      led twins k l (λ (q : Machine). LeavesBy n (Ok (call.PatchDrive patch)) kept q) (none, refl)
+      (moved twins k (configured (patched_drive m patch) (call.PatchDrive patch)) l is (patched_alike patch))
+  leaves_alike (call.PatchInterface patch) kept k later (none, is) =
+      let l : Machine = configured (patched_interface n patch) (call.PatchInterface patch) in
+      led twins k l (λ (q : Machine). LeavesBy n (Ok (call.PatchInterface patch)) kept q) (none, refl)
+      (moved twins k (configured (patched_interface m patch) (call.PatchInterface patch)) l is (limits_alike patch))
+  leaves_alike (call.PatchBalloon patch) kept k later (none, is) =
+      let l : Machine = configured (patched_balloon n patch) (call.PatchBalloon patch) in
+      led twins k l (λ (q : Machine). LeavesBy n (Ok (call.PatchBalloon patch)) kept q) (none, refl)
+      (moved twins k (configured (patched_balloon m patch) (call.PatchBalloon patch)) l is (amount_alike patch))
+  leaves_alike (call.PatchStatistics patch) kept k later (none, is) =
+      let l : Machine = configured (patched_statistics n patch) (call.PatchStatistics patch) in
+      led twins k l (λ (q : Machine). LeavesBy n (Ok (call.PatchStatistics patch)) kept q) (none, refl)
+      (moved twins k (configured (patched_statistics m patch) (call.PatchStatistics patch)) l is (interval_alike patch))
+  leaves_alike (call.PutMetadata body) kept k later (none, x) =
       let on = stores_alike (put body) k x in
-      led twins k on.0 (λ (q : Machine). LeavesBy n (Ok (change.PutMetadata body)) kept q) (none, on.1) on.2
-  leaves_alike (change.PatchMetadata patch) kept k later (none, x) =
+      led twins k on.0 (λ (q : Machine). LeavesBy n (Ok (call.PutMetadata body)) kept q) (none, on.1) on.2
+  leaves_alike (call.PatchMetadata patch) kept k later (none, x) =
       let on = stores_alike (patched m.metadata patch) k x in
-      led twins k on.0 (λ (q : Machine). LeavesBy n (Ok (change.PatchMetadata patch)) kept q)
+      led twins k on.0 (λ (q : Machine). LeavesBy n (Ok (call.PatchMetadata patch)) kept q)
       (none, subst (λ (d : Data). Stores (patched d patch) n on.0) alike.metadata on.1) on.2
-  leaves_alike change.Start kept k later x = absurd later
-  leaves_alike (change.State Paused) kept k later (none, is) =
+  leaves_alike (call.PatchVm Paused) kept k later (none, is) =
       let l : Machine = record n { guest = halted n.paused n.guest; paused = true } in
-      led twins k l (λ (q : Machine). LeavesBy n (Ok (change.State Paused)) kept q) (none, refl)
+      led twins k l (λ (q : Machine). LeavesBy n (Ok (call.PatchVm Paused)) kept q) (none, refl)
       (moved twins k (record m { guest = halted m.paused m.guest; paused = true }) l is halts_alike)
-  leaves_alike (change.State Resumed) kept k later (none, is) =
+  leaves_alike (call.PatchVm Resumed) kept k later (none, is) =
       let l : Machine = record n { paused = false } in
-      led twins k l (λ (q : Machine). LeavesBy n (Ok (change.State Resumed)) kept q) (none, refl)
+      led twins k l (λ (q : Machine). LeavesBy n (Ok (call.PatchVm Resumed)) kept q) (none, refl)
       (moved twins k (record m { paused = false }) l is
       (with_paused twins m n alike false m.guest n.guest alike.g alike.h alike.first alike.second alike.guests))
-  leaves_alike (change.CreateSnapshot it) kept k later x =
+  leaves_alike (call.CreateSnapshot it) kept k later x =
       let on = creates_alike twins m n alike it kept k m.guest n.guest alike.first alike.second x in
       record { l = on.0; front = next_twins twins m n alike ∷ []; is = on.1; stays = on.2 }
-  leaves_alike (change.LoadSnapshot load) kept k later x = absurd later
-  leaves_alike (change.Tell part) kept k later (none, is) =
-      led twins k n (λ (q : Machine). LeavesBy n (Ok (change.Tell part)) kept q) (none, refl) (moved twins k m n is alike)
+  leaves_alike (call.Get part) kept k later (none, is) =
+      led twins k n (λ (q : Machine). LeavesBy n (Ok (call.Get part)) kept q) (none, refl) (moved twins k m n is alike)
+  leaves_alike it kept k later x = absurd later
 
-  result_alike : (given : Next) (r : Result Change Refusal) (kept : List Device) (k : Machine) → allowed m given ≡ r → LeavesBy m r kept k → Leaves r kept k
+  result_alike : (given : Next) (r : Result ApiCall Refusal) (kept : List Device) (k : Machine) → allowed m given ≡ r → LeavesBy m r kept k → Leaves r kept k
   result_alike given (Ok it) kept k is x =
       leaves_alike it kept k (allowed_later m it (started alike.g m alike.first) (allowed_is m given it is)) x
   result_alike given (Err why) kept k is (none, same) =
@@ -265,25 +258,12 @@ module _ (twins : List Twins) (m n : Machine) (alike : Alike twins m n) where
 
   -- ---- what is left where a call on the files failed
 
-  failed_alike : (it : Change) (left : Left) (k : Machine) → Fails m it left k → (l : Machine) × Fails n it left l × Alike twins k l
-  failed_alike (change.BootSource source) left k x = absurd x
-  failed_alike (change.PutDrive drive) left k x = absurd x
-  failed_alike (change.PatchDrive patch) left k (path, is, none, same) = (n, (path, is, none, refl), moved twins k m n same alike)
-  failed_alike (change.PutInterface interface) left k x = absurd x
-  failed_alike (change.PatchInterface patch) left k x = absurd x
-  failed_alike (change.MachineConfig machine) left k x = absurd x
-  failed_alike (change.PutVsock vsock) left k x = absurd x
-  failed_alike (change.PutBalloon balloon) left k x = absurd x
-  failed_alike (change.PatchBalloon patch) left k x = absurd x
-  failed_alike (change.PatchStatistics patch) left k x = absurd x
-  failed_alike change.Start left k (none, same) = (n, (none, refl), moved twins k m n same alike)
-  failed_alike (change.State state) left k x = absurd x
-  failed_alike (change.CreateSnapshot it) left k x = fails_alike twins m n alike it left k m.guest n.guest alike.first alike.second x
-  failed_alike (change.LoadSnapshot load) left k (none, same) = (n, (none, refl), moved twins k m n same alike)
-  failed_alike (change.MmdsConfig mmds) left k x = absurd x
-  failed_alike (change.PutMetadata body) left k x = absurd x
-  failed_alike (change.PatchMetadata patch) left k x = absurd x
-  failed_alike (change.Tell part) left k x = absurd x
+  failed_alike : (it : ApiCall) (left : Left) (k : Machine) → Fails m it left k → (l : Machine) × Fails n it left l × Alike twins k l
+  failed_alike (call.PatchDrive patch) left k (path, is, none, same) = (n, (path, is, none, refl), moved twins k m n same alike)
+  failed_alike call.InstanceStart left k (none, same) = (n, (none, refl), moved twins k m n same alike)
+  failed_alike (call.CreateSnapshot it) left k x = fails_alike twins m n alike it left k m.guest n.guest alike.first alike.second x
+  failed_alike (call.LoadSnapshot load) left k (none, same) = (n, (none, refl), moved twins k m n same alike)
+  failed_alike it left k x = absurd x
 
   -- ---- a request
 
@@ -296,7 +276,7 @@ module _ (twins : List Twins) (m n : Machine) (alike : Alike twins m n) where
         front = on.front;
         is = (
           responds_alike twins m n alike given said responds,
-          subst (λ (r : Result Change Refusal). LeavesBy n r kept on.l) (allowed_alike twins m n alike given) on.is,
+          subst (λ (r : Result ApiCall Refusal). LeavesBy n r kept on.l) (allowed_alike twins m n alike given) on.is,
         );
         stays = on.stays;
       }

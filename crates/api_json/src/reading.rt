@@ -1,6 +1,7 @@
 // A request as a call.
 ghost use Rattle.std.specs.Prelude.{◌≡◌, IfOk};
 ghost use Rattle.serde_json.specs.View.{view};
+ghost use Rattle.http_stream.specs.Asked.{request_in};
 ghost use Rattle.api_calls.specs.Call.{call_of, made, sent};
 ghost use Rattle.api_calls.specs.Fields as fields;
 ghost use Rattle.api_json.specs.Gives.{Gives};
@@ -21,7 +22,7 @@ use crate::vm::{VM_STATE, state_of};
 use crate::vsock::{self, VSOCK};
 use crate::{drives, interfaces};
 use api_calls::{ApiCall, Body, Endpoint};
-use http_stream::Request;
+use http_stream::Asked;
 use metadata_store::Tree;
 use serde_json::Value;
 use std::alloc::{AllocError, Global};
@@ -93,13 +94,13 @@ fn read_body(alloc: Global, body: Body, id: &[u8], bytes: &[u8]) -> Result<ApiCa
 /// `Refused`: by the first of these that fits: its path, its method, its body as JSON, its body as an object, then
 /// a field that is unknown, one that is missing, one of the wrong kind, one out of range. The body of a GET isn't
 /// looked at.
-pub fn read(alloc: Global, request: &Request) -> Result<ApiCall, ReadError>
-    ensures { Gives result (call_of request.now) }
+pub fn read(alloc: Global, request: &Asked<'_>) -> Result<ApiCall, ReadError>
+    ensures { Gives result (call_of (request_in request.now)) }
 {
     let target = target_of(request.path.as_bytes(), request.method.as_bytes())?;
     match target.endpoint {
         Endpoint::Send(body) => {
-            let call = read_body(alloc, body, target.id, request.body.as_slice())?;
+            let call = read_body(alloc, body, target.id, request.body)?;
             Ok(call)
         }
         Endpoint::Get(part) => Ok(ApiCall::Get(part)),

@@ -2,8 +2,8 @@
 use Rattle.std.specs.Prelude.{Some, None}
 use Rattle.refusals.specs.declared.refusal.Refusal.{Refusal}
 use Rattle.refusals.specs.Refusals.{status_of, fault_text}
-use Rattle.vm_config.specs.declared.change.Change.{Change}
-use Rattle.vm_config.specs.declared.change.Change.TheVariants as change
+use Rattle.api_calls.specs.declared.call.ApiCall.{ApiCall}
+use Rattle.api_calls.specs.declared.call.ApiCall.TheVariants as call
 use Rattle.vm_config.specs.Texts.{Told, text_of}
 use Rattle.api_rules.specs.declared.answer.Answer.{Answer}
 
@@ -14,25 +14,9 @@ abbrev pub no_content : Answer
 no_content = record { status = 204; body = None }
 
 -- a call that tells is answered OK with its text, and any other No Content
-abbrev pub accepted : Change → Told → Answer
-accepted (change.Tell part) told = record {
+abbrev pub accepted : ApiCall → Told → Answer
+accepted (call.Get part) told = record {
   status = 200;
   body = Some (text_of part told);
 }
-accepted (change.BootSource source) told = no_content
-accepted (change.PutDrive drive) told = no_content
-accepted (change.PatchDrive patch) told = no_content
-accepted (change.PutInterface interface) told = no_content
-accepted (change.PatchInterface patch) told = no_content
-accepted (change.PutVsock vsock) told = no_content
-accepted (change.MachineConfig machine) told = no_content
-accepted (change.PutBalloon balloon) told = no_content
-accepted (change.PatchBalloon patch) told = no_content
-accepted (change.PatchStatistics patch) told = no_content
-accepted (change.MmdsConfig mmds) told = no_content
-accepted (change.PutMetadata body) told = no_content
-accepted (change.PatchMetadata patch) told = no_content
-accepted change.Start told = no_content
-accepted (change.State state) told = no_content
-accepted (change.CreateSnapshot it) told = no_content
-accepted (change.LoadSnapshot load) told = no_content
+accepted it told = no_content

@@ -1,5 +1,5 @@
--- Which calls are allowed: the API's table, row by row, without the checks of bodies, which come before.
-use Rattle.std.specs.Prelude.{ℕ, ◌^◌, ◌==◌, nat_le, nat_lt, Bool, true, false, not, ◌&&◌, ◌||◌, if◌then◌else◌, List, [], ◌∷◌, Option, Some, None, is_none, unwrap_or, Result, Ok, Err}
+-- Which calls are allowed, and what they change: the API's table, row by row, without the checks of bodies, which come before.
+use Rattle.std.specs.Prelude.{ℕ, ◌^◌, ◌==◌, nat_le, nat_lt, Bool, true, false, not, ◌&&◌, ◌||◌, if◌then◌else◌, List, [], ◌∷◌, Option, Some, None, is_none, is_some, Result, Ok, Err}
 use Rattle.std.specs.List.{list_all, list_any}
 use Rattle.guest_memory.specs.Boot.{loads_fit}
 use Rattle.refusals.specs.declared.refusal.Refusal.{Refusal}
@@ -9,10 +9,8 @@ use Rattle.api_calls.specs.declared.balloon.BalloonPatch.{BalloonPatch}
 use Rattle.api_calls.specs.declared.balloon.StatisticsPatch.{StatisticsPatch}
 use Rattle.api_calls.specs.declared.call.ApiCall.{ApiCall}
 use Rattle.api_calls.specs.declared.call.ApiCall.TheVariants as call
-use Rattle.api_calls.specs.declared.call.MachineConfig.{MachineConfig}
 use Rattle.api_calls.specs.declared.call.SnapshotType.{SnapshotType}
 use Rattle.api_calls.specs.declared.call.SnapshotType.TheVariants as snapshot
-use Rattle.api_calls.specs.declared.call.MachinePatch.{MachinePatch}
 use Rattle.api_calls.specs.declared.call.Drive.{Drive}
 use Rattle.api_calls.specs.declared.call.DrivePatch.{DrivePatch}
 use Rattle.api_calls.specs.declared.call.Part.{Part}
@@ -20,14 +18,13 @@ use Rattle.api_calls.specs.declared.call.Part.TheVariants as tells
 use Rattle.api_calls.specs.declared.interface.Interface.{Interface}
 use Rattle.api_calls.specs.declared.interface.InterfacePatch.{InterfacePatch}
 use Rattle.api_calls.specs.declared.mmds.MmdsConfig.{MmdsConfig}
+use Rattle.vm_config.specs.Changes.{with_amount, with_fields, with_interval}
 use Rattle.vm_config.specs.Devices.{device_count}
-use Rattle.vm_config.specs.Drives.{has_drive, is_named, is_root}
-use Rattle.vm_config.specs.Interfaces.{has_interface}
+use Rattle.vm_config.specs.Drives.{has_drive, is_named, is_root, patch_drive, put_drive}
+use Rattle.vm_config.specs.Interfaces.{has_interface, patch_interface, put_interface}
 use Rattle.vm_config.specs.declared.config.Config.{Config}
 use Rattle.vm_config.specs.declared.config.Phase.{Phase}
 use Rattle.vm_config.specs.declared.config.Phase.TheVariants as phase
-use Rattle.vm_config.specs.declared.change.Change.{Change}
-use Rattle.vm_config.specs.declared.change.Change.TheVariants as change
 use Rattle.api_rules.specs.declared.deciding.When.{When}
 use Rattle.api_rules.specs.declared.deciding.When.TheVariants.{BeforeBoot, AfterBoot, Always}
 use Rattle.api_rules.specs.declared.actions.InitrdFile.{InitrdFile}
@@ -46,27 +43,6 @@ when_told tells.VmConfig = Always
 when_told tells.Balloon = Always
 when_told tells.Statistics = AfterBoot
 
-abbrev pub when_allowed : ApiCall → When
-when_allowed (call.PutBootSource source) = BeforeBoot
-when_allowed (call.PutDrive drive) = BeforeBoot
-when_allowed (call.PatchDrive patch) = AfterBoot
-when_allowed (call.PutInterface interface) = BeforeBoot
-when_allowed (call.PatchInterface patch) = AfterBoot
-when_allowed (call.PutVsock vsock) = BeforeBoot
-when_allowed (call.PutMachineConfig machine) = BeforeBoot
-when_allowed (call.PatchMachineConfig patch) = BeforeBoot
-when_allowed (call.PutBalloon balloon) = BeforeBoot
-when_allowed (call.PatchBalloon patch) = AfterBoot
-when_allowed (call.PatchStatistics patch) = AfterBoot
-when_allowed (call.PutMmdsConfig mmds) = BeforeBoot
-when_allowed (call.PutMetadata body) = Always
-when_allowed (call.PatchMetadata patch) = Always
-when_allowed call.InstanceStart = BeforeBoot
-when_allowed (call.PatchVm state) = AfterBoot
-when_allowed (call.CreateSnapshot it) = AfterBoot
-when_allowed (call.LoadSnapshot load) = BeforeBoot
-when_allowed (call.Get part) = when_told part
-
 abbrev pub has_started : Phase → Bool
 has_started phase.NotStarted = false
 has_started phase.Running = true
@@ -81,16 +57,6 @@ abbrev pub misplaced : When → Phase → Option Refusal
 misplaced BeforeBoot p = if has_started p then Some refusal.OnlyBeforeBoot else None
 misplaced AfterBoot p = if has_started p then None else Some refusal.OnlyAfterBoot
 misplaced Always p = None
-
--- ---- a PATCH of the machine
-
--- the given fields replace, and the others stay
-abbrev pub patched : MachineConfig → MachinePatch → MachineConfig
-patched machine patch = record {
-  vcpu_count = unwrap_or patch.vcpu_count machine.vcpu_count;
-  mem_size_mib = unwrap_or patch.mem_size_mib machine.mem_size_mib;
-  track_dirty_pages = unwrap_or patch.track_dirty_pages machine.track_dirty_pages;
-}
 
 -- ---- a call's own refusals: a test and its refusal, one for each row, in order
 
@@ -202,68 +168,209 @@ create_rows p config ids type =
 abbrev pub load_rows : Config → Rows
 load_rows config = (config.configured, refusal.AlreadyConfigured) ∷ []
 
-abbrev pub own_rows : Phase → Config → Ids → ApiCall → Rows
-own_rows p config ids (call.PutBootSource source) = []
-own_rows p config ids (call.PutDrive drive) = drive_rows config drive
-own_rows p config ids (call.PatchDrive patch) = drive_patch_rows config patch
-own_rows p config ids (call.PutInterface interface) = interface_rows config interface
-own_rows p config ids (call.PatchInterface patch) = interface_patch_rows config patch
-own_rows p config ids (call.PutVsock vsock) = vsock_rows config
-own_rows p config ids (call.PutMachineConfig machine) = memory_rows config machine.mem_size_mib
-own_rows p config ids (call.PatchMachineConfig patch) = memory_rows config (patched config.machine patch).mem_size_mib
-own_rows p config ids (call.PutBalloon balloon) = balloon_rows config balloon
-own_rows p config ids (call.PatchBalloon patch) = balloon_patch_rows config patch
-own_rows p config ids (call.PatchStatistics patch) = statistics_patch_rows config patch
-own_rows p config ids (call.PutMmdsConfig mmds) = mmds_rows config mmds
-own_rows p config ids (call.PutMetadata body) = []
-own_rows p config ids (call.PatchMetadata patch) = []
-own_rows p config ids call.InstanceStart = start_rows config
-own_rows p config ids (call.PatchVm state) = []
-own_rows p config ids (call.CreateSnapshot it) = create_rows p config ids it.snapshot_type
-own_rows p config ids (call.LoadSnapshot load) = load_rows config
-own_rows p config ids (call.Get part) = told_rows config part
-
 abbrev pub first_refusal : Rows → Option Refusal
 first_refusal [] = None
 first_refusal (row ∷ rows) = if row.0 then Some row.1 else first_refusal rows
 
+-- ---- the table
+
+-- A row: when a call is allowed; its own refusals, in their order, by the phase, by what is configured and by the snapshots that are
+-- known; whether it reads files, and whether it writes the two of a snapshot; and what is configured after it. What is allowed only
+-- before boot makes it configured, and what was configured before is replaced. The metadata are no part of it.
+pub record Row : Type 0 where
+  pub when : When
+  pub refusals : Phase → Config → Ids → Rows
+  pub reads : Bool
+  pub writes : Bool
+  pub leaves : Config → Config
+
+abbrev pub row : ApiCall → Row
+-- PUT /boot-source
+row (call.PutBootSource source) = record {
+  when = BeforeBoot;
+  refusals = λ p config ids. [];
+  reads = false;
+  writes = false;
+  leaves = λ config. record config { boot_source = Some source; configured = true };
+}
+-- PUT /drives/{id}
+row (call.PutDrive drive) = record {
+  when = BeforeBoot;
+  refusals = λ p config ids. drive_rows config drive;
+  reads = false;
+  writes = false;
+  leaves = λ config. record config { drives = put_drive config.drives drive; configured = true };
+}
+-- PATCH /drives/{id}
+row (call.PatchDrive patch) = record {
+  when = AfterBoot;
+  refusals = λ p config ids. drive_patch_rows config patch;
+  reads = is_some patch.path_on_host;
+  writes = false;
+  leaves = λ config. record config { drives = patch_drive config.drives patch };
+}
+-- PUT /network-interfaces/{id}
+row (call.PutInterface interface) = record {
+  when = BeforeBoot;
+  refusals = λ p config ids. interface_rows config interface;
+  reads = false;
+  writes = false;
+  leaves = λ config. record config { interfaces = put_interface config.interfaces interface; configured = true };
+}
+-- PATCH /network-interfaces/{id}
+row (call.PatchInterface patch) = record {
+  when = AfterBoot;
+  refusals = λ p config ids. interface_patch_rows config patch;
+  reads = false;
+  writes = false;
+  leaves = λ config. record config { interfaces = patch_interface config.interfaces patch };
+}
+-- PUT /vsock
+row (call.PutVsock vsock) = record {
+  when = BeforeBoot;
+  refusals = λ p config ids. vsock_rows config;
+  reads = false;
+  writes = false;
+  leaves = λ config. record config { vsock = Some vsock; configured = true };
+}
+-- PUT /machine-config
+row (call.PutMachineConfig machine) = record {
+  when = BeforeBoot;
+  refusals = λ p config ids. memory_rows config machine.mem_size_mib;
+  reads = false;
+  writes = false;
+  leaves = λ config. record config { machine = machine; configured = true };
+}
+-- PATCH /machine-config
+row (call.PatchMachineConfig patch) = record {
+  when = BeforeBoot;
+  refusals = λ p config ids. memory_rows config (with_fields patch config.machine).mem_size_mib;
+  reads = false;
+  writes = false;
+  leaves = λ config. record config { machine = with_fields patch config.machine; configured = true };
+}
+-- PUT /balloon
+row (call.PutBalloon balloon) = record {
+  when = BeforeBoot;
+  refusals = λ p config ids. balloon_rows config balloon;
+  reads = false;
+  writes = false;
+  leaves = λ config. record config { balloon = Some balloon; configured = true };
+}
+-- PATCH /balloon
+row (call.PatchBalloon patch) = record {
+  when = AfterBoot;
+  refusals = λ p config ids. balloon_patch_rows config patch;
+  reads = false;
+  writes = false;
+  leaves = λ config. record config { balloon = with_amount patch config.balloon };
+}
+-- PATCH /balloon/statistics
+row (call.PatchStatistics patch) = record {
+  when = AfterBoot;
+  refusals = λ p config ids. statistics_patch_rows config patch;
+  reads = false;
+  writes = false;
+  leaves = λ config. record config { balloon = with_interval patch config.balloon };
+}
+-- PUT /mmds/config
+row (call.PutMmdsConfig mmds) = record {
+  when = BeforeBoot;
+  refusals = λ p config ids. mmds_rows config mmds;
+  reads = false;
+  writes = false;
+  leaves = λ config. record config { mmds = Some mmds; configured = true };
+}
+-- PUT /mmds
+row (call.PutMetadata body) = record {
+  when = Always;
+  refusals = λ p config ids. [];
+  reads = false;
+  writes = false;
+  leaves = λ config. config;
+}
+-- PATCH /mmds
+row (call.PatchMetadata patch) = record {
+  when = Always;
+  refusals = λ p config ids. [];
+  reads = false;
+  writes = false;
+  leaves = λ config. config;
+}
+-- PUT /actions
+row call.InstanceStart = record {
+  when = BeforeBoot;
+  refusals = λ p config ids. start_rows config;
+  reads = true;
+  writes = false;
+  leaves = λ config. record config { configured = true };
+}
+-- PATCH /vm
+row (call.PatchVm state) = record {
+  when = AfterBoot;
+  refusals = λ p config ids. [];
+  reads = false;
+  writes = false;
+  leaves = λ config. config;
+}
+-- PUT /snapshot/create
+row (call.CreateSnapshot it) = record {
+  when = AfterBoot;
+  refusals = λ p config ids. create_rows p config ids it.snapshot_type;
+  reads = false;
+  writes = true;
+  leaves = λ config. config;
+}
+-- PUT /snapshot/load
+row (call.LoadSnapshot load) = record {
+  when = BeforeBoot;
+  refusals = λ p config ids. load_rows config;
+  reads = true;
+  writes = false;
+  leaves = λ config. record config { configured = true };
+}
+-- GET of a part
+row (call.Get part) = record {
+  when = when_told part;
+  refusals = λ p config ids. told_rows config part;
+  reads = false;
+  writes = false;
+  leaves = λ config. config;
+}
+
+abbrev pub when_allowed : ApiCall → When
+when_allowed c = (row c).when
+
 abbrev pub own_refusal : Phase → Config → Ids → ApiCall → Option Refusal
-own_refusal p config ids c = first_refusal (own_rows p config ids c)
+own_refusal p config ids c = first_refusal ((row c).refusals p config ids)
 
--- ---- what an accepted call asks for
+abbrev pub changed : Config → ApiCall → Config
+changed config c = (row c).leaves config
 
-abbrev pub change_of : Config → ApiCall → Change
-change_of config (call.PutBootSource source) = change.BootSource source
-change_of config (call.PutDrive drive) = change.PutDrive drive
-change_of config (call.PatchDrive patch) = change.PatchDrive patch
-change_of config (call.PutInterface interface) = change.PutInterface interface
-change_of config (call.PatchInterface patch) = change.PatchInterface patch
-change_of config (call.PutVsock vsock) = change.PutVsock vsock
-change_of config (call.PutMachineConfig machine) = change.MachineConfig machine
-change_of config (call.PatchMachineConfig patch) = change.MachineConfig (patched config.machine patch)
-change_of config (call.PutBalloon balloon) = change.PutBalloon balloon
-change_of config (call.PatchBalloon patch) = change.PatchBalloon patch
-change_of config (call.PatchStatistics patch) = change.PatchStatistics patch
-change_of config (call.PutMmdsConfig mmds) = change.MmdsConfig mmds
-change_of config (call.PutMetadata body) = change.PutMetadata body
-change_of config (call.PatchMetadata patch) = change.PatchMetadata patch
-change_of config call.InstanceStart = change.Start
-change_of config (call.PatchVm state) = change.State state
-change_of config (call.CreateSnapshot it) = change.CreateSnapshot it
-change_of config (call.LoadSnapshot load) = change.LoadSnapshot load
-change_of config (call.Get part) = change.Tell part
+-- it reads files, and leaves them as they are
+abbrev pub reads_files : ApiCall → Bool
+reads_files c = (row c).reads
+
+-- it reads or writes files
+abbrev pub needs_files : ApiCall → Bool
+needs_files c = (row c).writes || (row c).reads
+
+-- only one drive or one interface more takes memory: all else that a call gives is moved
+abbrev pub takes_memory : ApiCall → Bool
+takes_memory (call.PutDrive drive) = true
+takes_memory (call.PutInterface interface) = true
+takes_memory it = false
 
 -- ---- the decision
 
 -- the first that is there refuses
-abbrev pub unless : Option Refusal → Result Change Refusal → Result Change Refusal
+abbrev pub unless : Option Refusal → Result ApiCall Refusal → Result ApiCall Refusal
 unless None due = due
 unless (Some why) due = Err why
 
 -- by the phase, then by the call's own refusals
-abbrev pub decision : Phase → Config → Ids → ApiCall → Result Change Refusal
-decision p config ids c =
-    unless (misplaced (when_allowed c) p) (unless (own_refusal p config ids c) (Ok (change_of config c)))
+abbrev pub decision : Phase → Config → Ids → ApiCall → Result ApiCall Refusal
+decision p config ids c = unless (misplaced (when_allowed c) p) (unless (own_refusal p config ids c) (Ok c))
 
 -- ---- what an allowed start is refused by the files, where image is how many bytes its kernel image has, and
 -- ---- has_drive_files is whether each drive has its file

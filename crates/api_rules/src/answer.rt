@@ -3,9 +3,10 @@ ghost use Rattle.std.specs.Prelude.{◌≡◌, IfOk};
 ghost use Rattle.vm_config.specs.Views.{told_in};
 ghost use Rattle.api_rules.specs.Answers.{accepted, no_content, refused};
 
+use api_calls::ApiCall;
 use refusals::{Refusal, fault_text};
 use std::alloc::{AllocError, Global};
-use vm_config::{Change, MachineView};
+use vm_config::MachineView;
 use vm_types::ByteList;
 
 const OK: u16 = 200;
@@ -42,13 +43,13 @@ pub fn fault_answer(alloc: Global, refusal: Refusal) -> Result<Answer, AllocErro
 /// What an accepted call is answered by the machine that is seen so.
 pub fn accepted_answer(
     alloc: Global,
-    change: &Change,
+    call: &ApiCall,
     machine: &MachineView<'_>,
 ) -> Result<Answer, AllocError>
-    ensures { IfOk result (λ answer. answer ≡ accepted change.now (told_in machine.now)) }
+    ensures { IfOk result (λ answer. answer ≡ accepted call.now (told_in machine.now)) }
 {
-    match change {
-        Change::Tell(part) => Ok(Answer {
+    match call {
+        ApiCall::Get(part) => Ok(Answer {
             status: OK,
             body: Some(machine.json(alloc, *part)?),
         }),

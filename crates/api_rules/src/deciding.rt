@@ -1,15 +1,15 @@
-// What a call asks for, or its first refusal.
+// Whether a call is allowed, or its first refusal.
 ghost use Rattle.std.specs.Prelude.{◌≡◌};
 ghost use Rattle.api_rules.specs.Table as table;
 
 use crate::actions::start_refusal;
 use crate::ids::Ids;
-use crate::machine_config::{memory_refusal, patch_refusal, patched};
+use crate::machine_config::{memory_refusal, patch_refusal};
 use crate::snapshot::{create_refusal, load_refusal};
 use crate::{balloon, drives, interfaces, mmds, vsock};
 use api_calls::{ApiCall, Part};
 use refusals::Refusal;
-use vm_config::{Change, Config, Phase};
+use vm_config::{Config, Phase};
 
 /// When a call is allowed.
 #[derive(Clone, Copy, Drop)]
@@ -87,43 +87,18 @@ fn own_refusal(phase: Phase, config: &Config, ids: &Ids, call: &ApiCall) -> Opti
         ApiCall::InstanceStart => start_refusal(config),
         ApiCall::CreateSnapshot(create) => create_refusal(phase, config, ids, create.snapshot_type),
         ApiCall::LoadSnapshot(_) => load_refusal(config),
-        _ => None,
+        ApiCall::PutBootSource(_)
+        | ApiCall::PutMetadata(_)
+        | ApiCall::PatchMetadata(_)
+        | ApiCall::PatchVm(_) => None,
     }
 }
 
-fn change_of(config: &Config, call: ApiCall) -> Change
-    ensures { result ≡ table.change_of config.now call }
-{
-    match call {
-        ApiCall::PutBootSource(source) => Change::BootSource(source),
-        ApiCall::PutDrive(drive) => Change::PutDrive(drive),
-        ApiCall::PatchDrive(patch) => Change::PatchDrive(patch),
-        ApiCall::PutInterface(interface) => Change::PutInterface(interface),
-        ApiCall::PatchInterface(patch) => Change::PatchInterface(patch),
-        ApiCall::PutVsock(vsock) => Change::PutVsock(vsock),
-        ApiCall::PutMachineConfig(machine) => Change::MachineConfig(machine),
-        ApiCall::PatchMachineConfig(patch) => {
-            Change::MachineConfig(patched(&config.machine, &patch))
-        }
-        ApiCall::PutBalloon(balloon) => Change::PutBalloon(balloon),
-        ApiCall::PatchBalloon(patch) => Change::PatchBalloon(patch),
-        ApiCall::PatchStatistics(patch) => Change::PatchStatistics(patch),
-        ApiCall::PutMmdsConfig(mmds) => Change::MmdsConfig(mmds),
-        ApiCall::PutMetadata(body) => Change::PutMetadata(body),
-        ApiCall::PatchMetadata(patch) => Change::PatchMetadata(patch),
-        ApiCall::InstanceStart => Change::Start,
-        ApiCall::PatchVm(state) => Change::State(state),
-        ApiCall::CreateSnapshot(create) => Change::CreateSnapshot(create),
-        ApiCall::LoadSnapshot(load) => Change::LoadSnapshot(load),
-        ApiCall::Get(part) => Change::Tell(part),
-    }
-}
-
-/// What a call asks for in this phase, or its first refusal: by the phase, then its own in the table's order.
+/// The call, where it is allowed in this phase, or its first refusal: by the phase, then its own in the table's order.
 ///
 /// It takes no memory: texts are moved. It asks no file: a start goes on with `boot_refusal`, and a PATCH of a drive with
 /// the file. Nor does it look at the metadata: a PUT or a PATCH of them goes on with the store.
-pub fn decide(phase: Phase, config: &Config, ids: &Ids, call: ApiCall) -> Result<Change, Refusal>
+pub fn decide(phase: Phase, config: &Config, ids: &Ids, call: ApiCall) -> Result<ApiCall, Refusal>
     ensures { result ≡ table.decision phase config.now ids.now call }
 {
     if let Some(why) = misplaced(when_allowed(&call), phase) {
@@ -132,5 +107,5 @@ pub fn decide(phase: Phase, config: &Config, ids: &Ids, call: ApiCall) -> Result
     if let Some(why) = own_refusal(phase, config, ids, &call) {
         return Err(why);
     }
-    Ok(change_of(config, call))
+    Ok(call)
 }

@@ -1,9 +1,9 @@
-//! Which calls are allowed, and what each asks for.
+//! Which calls are allowed, and what each changes.
 //!
-//! `decide` is the table: a call is refused by the phase, then by the refusals of its own, each in the table's
-//! order, and else it is a change. It takes no memory, and asks no file: what a start is refused by its files,
-//! `boot_refusal` says. The definition is `specs/Table.antt`, row by row. `specs/Answers.antt` has what
-//! a call is answered.
+//! The table is `specs/Table.antt`: of each call when it is allowed, its own refusals, whether it asks files, and what it leaves of
+//! what is configured. `decide` refuses a call by the phase, then by the refusals of its own, each in the table's order. It takes no
+//! memory, and asks no file: what a start is refused by its files, `boot_refusal` says. `apply` takes what an accepted call changes.
+//! `specs/Answers.antt` has what a call is answered.
 #![tactic(auto)]
 
 mod ids;
@@ -35,10 +35,12 @@ mod snapshot;
 
 // A call, by all of them, and what it is answered.
 mod answer;
+mod applying;
 mod deciding;
 
 pub use actions::{InitrdFile, boot_refusal, initrd_len};
 pub use answer::{Answer, accepted_answer, done_answer, fault_answer};
+pub use applying::apply;
 pub use deciding::{When, decide};
 pub use ids::Ids;
-pub use vm_config::{Change, Config, Phase};
+pub use vm_config::{Config, Phase};

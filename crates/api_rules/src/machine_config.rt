@@ -1,22 +1,12 @@
 // PUT and PATCH /machine-config
 ghost use Rattle.std.specs.Prelude.{◌≡◌};
+ghost use Rattle.vm_config.specs.Changes.{with_fields};
 ghost use Rattle.api_rules.specs.Table as table;
 
 use crate::balloon::{amount_of, is_beyond};
-use api_calls::{MachineConfig, MachinePatch};
+use api_calls::MachinePatch;
 use refusals::Refusal;
-use vm_config::Config;
-
-/// The machine with the given fields replaced.
-pub fn patched(machine: &MachineConfig, patch: &MachinePatch) -> MachineConfig
-    ensures { result ≡ table.patched machine.now patch.now }
-{
-    MachineConfig {
-        vcpu_count: patch.vcpu_count.unwrap_or(machine.vcpu_count),
-        mem_size_mib: patch.mem_size_mib.unwrap_or(machine.mem_size_mib),
-        track_dirty_pages: patch.track_dirty_pages.unwrap_or(machine.track_dirty_pages),
-    }
-}
+use vm_config::{Config, with_fields};
 
 /// What so much memory is refused by the configuration: it is less than the balloon is to take.
 pub fn memory_refusal(config: &Config, mem_size_mib: u64) -> Option<Refusal>
@@ -32,7 +22,7 @@ pub fn memory_refusal(config: &Config, mem_size_mib: u64) -> Option<Refusal>
 /// What a PATCH is refused by the configuration.
 pub fn patch_refusal(config: &Config, patch: &MachinePatch) -> Option<Refusal>
     ensures { result ≡ table.first_refusal
-        (table.memory_rows config.now (table.patched config.now.machine patch.now).mem_size_mib) }
+        (table.memory_rows config.now (with_fields patch.now config.now.machine).mem_size_mib) }
 {
-    memory_refusal(config, patched(&config.machine, patch).mem_size_mib)
+    memory_refusal(config, with_fields(patch, &config.machine).mem_size_mib)
 }

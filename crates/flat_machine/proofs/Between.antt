@@ -20,16 +20,14 @@ use Rattle.api_calls.specs.declared.call.ApiCall.{ApiCall}
 use Rattle.api_calls.specs.declared.call.ApiCall.TheVariants as call
 use Rattle.api_calls.specs.declared.call.SnapshotCreate.{SnapshotCreate}
 use Rattle.api_calls.specs.declared.call.VmState.TheVariants.{Paused, Resumed}
-use Rattle.vm_config.specs.declared.config.Config.{Config}
 use Rattle.vm_config.specs.declared.config.Phase.{Phase}
 use Rattle.vm_config.specs.declared.config.Phase.TheVariants as phase
-use Rattle.vm_config.specs.declared.change.Change.{Change}
-use Rattle.vm_config.specs.declared.change.Change.TheVariants as change
 use Rattle.vm_config.specs.Changes.{with_amount, with_interval}
 use Rattle.vm_config.specs.Devices.{balloon_device, interface_device}
 use Rattle.vm_config.specs.Drives.{device_of}
-use Rattle.api_rules.specs.declared.deciding.When.TheVariants.{BeforeBoot}
-use Rattle.api_rules.specs.Table.{change_of, has_started, misplaced, when_allowed}
+use Rattle.api_rules.specs.declared.deciding.When.{When}
+use Rattle.api_rules.specs.declared.deciding.When.TheVariants.{BeforeBoot, AfterBoot, Always}
+use Rattle.api_rules.specs.Table.{has_started, misplaced, when_allowed}
 use Rattle.script_text.specs.declared.item.Item.{Item}
 use Rattle.script_text.specs.declared.item.Item.TheVariants as item
 use Rattle.serde_json.specs.Data.{Data}
@@ -112,19 +110,14 @@ stays g m n there guest numbers base = by_events g g m n (guest ∙ there) numbe
 same : (g : Guest) (m n : Machine) → m.guest ≡ Some g → n ≡ m → GoesOn g m n
 same g m n there is = moved g m n m is (stays g m m there refl refl refl)
 
--- ---- which changes a machine allows that has started
+-- ---- which calls a machine allows that has started
 
-abbrev pub IsLater : Change → Type 0
-IsLater (change.BootSource source) = ⊥
-IsLater (change.PutDrive drive) = ⊥
-IsLater (change.PutInterface interface) = ⊥
-IsLater (change.MachineConfig machine) = ⊥
-IsLater (change.PutVsock vsock) = ⊥
-IsLater (change.PutBalloon balloon) = ⊥
-IsLater (change.MmdsConfig mmds) = ⊥
-IsLater change.Start = ⊥
-IsLater (change.LoadSnapshot load) = ⊥
-IsLater it = Unit {0}
+abbrev pub IsLaterBy : When → Type 0
+IsLaterBy BeforeBoot = ⊥
+IsLaterBy it = Unit {0}
+
+abbrev pub IsLater : ApiCall → Type 0
+IsLater c = IsLaterBy (when_allowed c)
 
 pub too_late : {A : Type 0} (p : Phase) → has_started p ≡ true → misplaced BeforeBoot p ≡ None → A
 too_late phase.NotStarted started placed = absurd cc
@@ -132,31 +125,13 @@ too_late phase.Running started placed = absurd cc
 too_late phase.Paused started placed = absurd cc
 
 -- one that comes at its time
-pub at_its_time : (p : Phase) (config : Config) (c : ApiCall) → has_started p ≡ true → misplaced (when_allowed c) p ≡ None
-    → IsLater (change_of config c)
-at_its_time p config (call.PutBootSource source) started placed = too_late p started placed
-at_its_time p config (call.PutDrive drive) started placed = too_late p started placed
-at_its_time p config (call.PatchDrive patch) started placed = tt
-at_its_time p config (call.PutInterface interface) started placed = too_late p started placed
-at_its_time p config (call.PatchInterface patch) started placed = tt
-at_its_time p config (call.PutMachineConfig machine) started placed = too_late p started placed
-at_its_time p config (call.PatchMachineConfig patch) started placed = too_late p started placed
-at_its_time p config (call.PutVsock vsock) started placed = too_late p started placed
-at_its_time p config (call.PutBalloon balloon) started placed = too_late p started placed
-at_its_time p config (call.PatchBalloon patch) started placed = tt
-at_its_time p config (call.PatchStatistics patch) started placed = tt
-at_its_time p config (call.PutMmdsConfig mmds) started placed = too_late p started placed
-at_its_time p config (call.PutMetadata body) started placed = tt
-at_its_time p config (call.PatchMetadata patch) started placed = tt
-at_its_time p config call.InstanceStart started placed = too_late p started placed
-at_its_time p config (call.PatchVm state) started placed = tt
-at_its_time p config (call.CreateSnapshot it) started placed = tt
-at_its_time p config (call.LoadSnapshot load) started placed = too_late p started placed
-at_its_time p config (call.Get part) started placed = tt
+pub at_its_time : (p : Phase) (when : When) → has_started p ≡ true → misplaced when p ≡ None → IsLaterBy when
+at_its_time p BeforeBoot started placed = too_late p started placed
+at_its_time p AfterBoot started placed = tt
+at_its_time p Always started placed = tt
 
-pub allowed_later : (m : Machine) (it : Change) → has_started (phase_of m) ≡ true → IsAllowed m it → IsLater it
-allowed_later m it started known =
-    subst IsLater known.change_is (at_its_time (phase_of m) m.config known.asked started known.placed)
+pub allowed_later : (m : Machine) (it : ApiCall) → has_started (phase_of m) ≡ true → IsAllowed m it → IsLater it
+allowed_later m it started known = at_its_time (phase_of m) (when_allowed it) started known.placed
 
 started_by : (g : Guest) (paused : Bool) → has_started (phase_by (Some g) paused) ≡ true
 started_by g true = refl
@@ -242,46 +217,38 @@ stores_on : (g : Guest) (kept : Result Data Refusal) (m n : Machine) → m.guest
 stores_on g (Ok kept) m n there is = moved g m n (record m { metadata = kept }) is (stays g m (record m { metadata = kept }) there refl refl refl)
 stores_on g (Err why) m n there is = same g m n there is
 
-leaves_on : (g : Guest) (it : Change) (m n : Machine) → m.guest ≡ Some g → IsLater it → Leaves m it n → GoesOn g m n
-leaves_on g (change.BootSource source) m n there later is = absurd later
-leaves_on g (change.PutDrive drive) m n there later is = absurd later
-leaves_on g (change.PatchDrive patch) m n there later is =
-    let after : Machine = configured (patched_drive m patch) (change.PatchDrive patch) in
+leaves_on : (g : Guest) (it : ApiCall) (m n : Machine) → m.guest ≡ Some g → IsLater it → Leaves m it n → GoesOn g m n
+leaves_on g (call.PatchDrive patch) m n there later is =
+    let after : Machine = configured (patched_drive m patch) (call.PatchDrive patch) in
     let number = device_of m.config.drives patch.drive_id in
     let h = resized_keeps g patch.path_on_host number m.saved m.guest there in
     let q = relimited_keeps h.0 limits_told patch.rate_limiter number (resized patch.path_on_host number m.saved m.guest) h.1 in
     moved g m n after is (by_events g q.0 m after q.1 refl refl (keeps_both g h.0 q.0 h.2 q.2))
-leaves_on g (change.PutInterface interface) m n there later is = absurd later
-leaves_on g (change.PatchInterface patch) m n there later is =
-    let after : Machine = configured (patched_interface m patch) (change.PatchInterface patch) in
+leaves_on g (call.PatchInterface patch) m n there later is =
+    let after : Machine = configured (patched_interface m patch) (call.PatchInterface patch) in
     let number = interface_device m.config patch.iface_id in
     let h = relimited_keeps g receives_told patch.rx_rate_limiter number m.guest there in
     let q =
     relimited_keeps h.0 transmits_told patch.tx_rate_limiter number (relimited receives_told patch.rx_rate_limiter number m.guest) h.1 in
     moved g m n after is (by_events g q.0 m after q.1 refl refl (keeps_both g h.0 q.0 h.2 q.2))
-leaves_on g (change.MachineConfig machine) m n there later is = absurd later
-leaves_on g (change.PutVsock vsock) m n there later is = absurd later
-leaves_on g (change.PutBalloon balloon) m n there later is = absurd later
-leaves_on g (change.PatchBalloon patch) m n there later is =
-    let after : Machine = configured (patched_balloon m patch) (change.PatchBalloon patch) in
+leaves_on g (call.PatchBalloon patch) m n there later is =
+    let after : Machine = configured (patched_balloon m patch) (call.PatchBalloon patch) in
     let h = retargeted_keeps g (with_amount patch m.config.balloon) (balloon_device m.config) m.guest there in
     moved g m n after is (by_events g h.0 m after h.1 refl refl h.2)
-leaves_on g (change.PatchStatistics patch) m n there later is =
-    let after : Machine = configured (patched_statistics m patch) (change.PatchStatistics patch) in
+leaves_on g (call.PatchStatistics patch) m n there later is =
+    let after : Machine = configured (patched_statistics m patch) (call.PatchStatistics patch) in
     let h = retimed_keeps g (with_interval patch m.config.balloon) (balloon_device m.config) m.guest there in
     moved g m n after is (by_events g h.0 m after h.1 refl refl h.2)
-leaves_on g (change.MmdsConfig mmds) m n there later is = absurd later
-leaves_on g change.Start m n there later is = absurd later
-leaves_on g (change.State Paused) m n there later is =
+leaves_on g (call.PatchVm Paused) m n there later is =
     let h = halted_keeps g m.paused m.guest there in
     moved g m n (record m { guest = halted m.paused m.guest; paused = true }) is
     (by_events g h.0 m (record m { guest = halted m.paused m.guest; paused = true }) h.1 refl refl h.2)
-leaves_on g (change.State Resumed) m n there later is = moved g m n (record m { paused = false }) is (stays g m (record m { paused = false }) there refl refl refl)
-leaves_on g (change.CreateSnapshot it) m n there later (kept, x) = create_on g m.guest m it kept n there x
-leaves_on g (change.LoadSnapshot load) m n there later x = absurd later
-leaves_on g (change.PutMetadata body) m n there later x = stores_on g (put body) m n there x
-leaves_on g (change.PatchMetadata patch) m n there later x = stores_on g (patched m.metadata patch) m n there x
-leaves_on g (change.Tell part) m n there later is = same g m n there is
+leaves_on g (call.PatchVm Resumed) m n there later is = moved g m n (record m { paused = false }) is (stays g m (record m { paused = false }) there refl refl refl)
+leaves_on g (call.CreateSnapshot it) m n there later (kept, x) = create_on g m.guest m it kept n there x
+leaves_on g (call.PutMetadata body) m n there later x = stores_on g (put body) m n there x
+leaves_on g (call.PatchMetadata patch) m n there later x = stores_on g (patched m.metadata patch) m n there x
+leaves_on g (call.Get part) m n there later is = same g m n there is
+leaves_on g it m n there later is = absurd later
 
 create_fails_on : (g : Guest) (guest : Option Guest) (m : Machine) (it : SnapshotCreate) (left : Left) (n : Machine) → m.guest ≡ Some g
     → CreateFails guest m it left n → GoesOn g m n
@@ -295,32 +262,19 @@ create_fails_on g (Some q) m it left n there short = record {
   since = inl (record { base = ap (λ (k : Machine). k.ids.base) short.leaves; keeps = keeps_same g g refl });
 }
 
-fails_on : (g : Guest) (it : Change) (m : Machine) (left : Left) (n : Machine) → m.guest ≡ Some g → Fails m it left n → GoesOn g m n
-fails_on g (change.BootSource source) m left n there x = absurd x
-fails_on g (change.PutDrive drive) m left n there x = absurd x
-fails_on g (change.PatchDrive patch) m left n there x = same g m n there x.3
-fails_on g (change.PutInterface interface) m left n there x = absurd x
-fails_on g (change.PatchInterface patch) m left n there x = absurd x
-fails_on g (change.MachineConfig machine) m left n there x = absurd x
-fails_on g change.Start m left n there x = same g m n there x.1
-fails_on g (change.State state) m left n there x = absurd x
-fails_on g (change.CreateSnapshot it) m left n there x = create_fails_on g m.guest m it left n there x
-fails_on g (change.LoadSnapshot load) m left n there x = same g m n there x.1
-fails_on g (change.PutVsock vsock) m left n there x = absurd x
-fails_on g (change.PutBalloon balloon) m left n there x = absurd x
-fails_on g (change.PatchBalloon patch) m left n there x = absurd x
-fails_on g (change.PatchStatistics patch) m left n there x = absurd x
-fails_on g (change.MmdsConfig mmds) m left n there x = absurd x
-fails_on g (change.PutMetadata body) m left n there x = absurd x
-fails_on g (change.PatchMetadata patch) m left n there x = absurd x
-fails_on g (change.Tell part) m left n there x = absurd x
+fails_on : (g : Guest) (it : ApiCall) (m : Machine) (left : Left) (n : Machine) → m.guest ≡ Some g → Fails m it left n → GoesOn g m n
+fails_on g (call.PatchDrive patch) m left n there x = same g m n there x.3
+fails_on g call.InstanceStart m left n there x = same g m n there x.1
+fails_on g (call.CreateSnapshot it) m left n there x = create_fails_on g m.guest m it left n there x
+fails_on g (call.LoadSnapshot load) m left n there x = same g m n there x.1
+fails_on g it m left n there x = absurd x
 
 -- what it leaves, whatever it kept
-pub leaves_of : (it : Change) (m : Machine) (kept : List Device) (n : Machine) → LeavesBy m (Ok it) kept n → Leaves m it n
-leaves_of (change.CreateSnapshot it) m kept n x = (kept, x)
+pub leaves_of : (it : ApiCall) (m : Machine) (kept : List Device) (n : Machine) → LeavesBy m (Ok it) kept n → Leaves m it n
+leaves_of (call.CreateSnapshot it) m kept n x = (kept, x)
 leaves_of it m kept n x = x.1
 
-result_on : (g : Guest) (m n : Machine) (given : Next) (kept : List Device) (result : Result Change Refusal) → m.guest ≡ Some g → allowed m given ≡ result
+result_on : (g : Guest) (m n : Machine) (given : Next) (kept : List Device) (result : Result ApiCall Refusal) → m.guest ≡ Some g → allowed m given ≡ result
     → LeavesBy m result kept n → GoesOn g m n
 result_on g m n given kept (Ok it) there is x =
     leaves_on g it m n there (allowed_later m it (started g m there) (allowed_is m given it is)) (leaves_of it m kept n x)

@@ -8,7 +8,7 @@ use Rattle.api_calls.specs.declared.call.SnapshotType.{SnapshotType}
 use Rattle.api_calls.specs.declared.call.SnapshotType.TheVariants as snapshot
 use Rattle.vm_types.specs.declared.identity.Identity.{Identity}
 use Rattle.api_calls.specs.declared.call.SnapshotLoad.{SnapshotLoad}
-use Rattle.vm_config.specs.declared.change.Change.TheVariants as change
+use Rattle.api_calls.specs.declared.call.ApiCall.TheVariants as call
 use Rattle.guest_memory.specs.Ram.{page_size}
 use Rattle.flat_guest.specs.Changes.{reset_guest}
 use Rattle.flat_guest.specs.Guest.{Guest}
@@ -64,5 +64,5 @@ module _ (m n k : Machine) (g : Guest) (it : SnapshotCreate) (load : SnapshotLoa
       ∙ found_again m.saved it.files (next_identity m) copy g.memory.bytes differ (saved_is m n g it copy there of creates)
       (new_fits (next_identity m) copy (saved_is m n g it copy there of creates)) whole
 
-  pub loaded_of : (p : Machine) → Leaves k (change.LoadSnapshot load) p → p ≡ carried k load snapshot_of
+  pub loaded_of : (p : Machine) → Leaves k (call.LoadSnapshot load) p → p ≡ carried k load snapshot_of
   loaded_of p loads = subst (λ (r : Result Snapshot Refusal). Restores r k load p) finds_of loads

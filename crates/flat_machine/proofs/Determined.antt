@@ -48,14 +48,14 @@ use Rattle.serde_json.specs.Data.{Data}
 use Rattle.metadata_store.specs.Store.{patched, put}
 use Rattle.vm_config.specs.Devices.{balloon_device}
 use Rattle.vm_config.specs.Texts.{Told}
-use Rattle.vm_config.specs.declared.change.Change.{Change}
-use Rattle.vm_config.specs.declared.change.Change.TheVariants as change
+use Rattle.api_calls.specs.declared.call.ApiCall.{ApiCall}
+use Rattle.api_calls.specs.declared.call.ApiCall.TheVariants as call
 use Rattle.api_rules.specs.declared.answer.Answer.{Answer}
 use Rattle.api_rules.specs.Answers.{accepted}
 use Rattle.api_calls.specs.declared.call.VmState.TheVariants.{Paused, Resumed}
 use Rattle.refusals.specs.declared.refusal.Refusal.{Refusal}
 use Rattle.flat_machine.specs.Run.{Act, Run}
-use Rattle.flat_machine.proofs.Allowed.{same_change}
+use Rattle.flat_machine.proofs.Allowed.{same_call}
 use Rattle.flat_machine.proofs.Telling.{tells_one}
 
 -- one text and one machine
@@ -120,48 +120,23 @@ create_fails_one (Some g) m it left n k x y =
     (one_text it.files m.saved n.saved k.saved (x.memory ∙ sym y.memory) (x.state ∙ sym y.state) x.others y.others) in
     x.leaves ∙ (λ i. record m { saved = saved i; calls = calls i; ids = spent (m.ids.next + 1) m.ids }) ∙ sym y.leaves
 
-result_one : (r : Result Change Refusal) (m : Machine) (kept : List Device) (n k : Machine) → LeavesBy m r kept n → LeavesBy m r kept k
+result_one : (r : Result ApiCall Refusal) (m : Machine) (kept : List Device) (n k : Machine) → LeavesBy m r kept n → LeavesBy m r kept k
     → n ≡ k
-result_one (Ok (change.BootSource source)) m kept n k x y = x.1 ∙ sym y.1
-result_one (Ok (change.PutDrive drive)) m kept n k x y = x.1 ∙ sym y.1
-result_one (Ok (change.PatchDrive patch)) m kept n k x y = x.1 ∙ sym y.1
-result_one (Ok (change.PutInterface interface)) m kept n k x y = x.1 ∙ sym y.1
-result_one (Ok (change.PatchInterface patch)) m kept n k x y = x.1 ∙ sym y.1
-result_one (Ok (change.MachineConfig machine)) m kept n k x y = x.1 ∙ sym y.1
-result_one (Ok (change.PutVsock vsock)) m kept n k x y = x.1 ∙ sym y.1
-result_one (Ok (change.PutBalloon balloon)) m kept n k x y = x.1 ∙ sym y.1
-result_one (Ok (change.PatchBalloon patch)) m kept n k x y = x.1 ∙ sym y.1
-result_one (Ok (change.PatchStatistics patch)) m kept n k x y = x.1 ∙ sym y.1
-result_one (Ok (change.MmdsConfig mmds)) m kept n k x y = x.1 ∙ sym y.1
-result_one (Ok (change.PutMetadata body)) m kept n k x y = stores_one (put body) m n k x.1 y.1
-result_one (Ok (change.PatchMetadata patch)) m kept n k x y = stores_one (patched m.metadata patch) m n k x.1 y.1
-result_one (Ok change.Start) m kept n k x y = x.1 ∙ sym y.1
-result_one (Ok (change.State Paused)) m kept n k x y = x.1 ∙ sym y.1
-result_one (Ok (change.State Resumed)) m kept n k x y = x.1 ∙ sym y.1
-result_one (Ok (change.CreateSnapshot it)) m kept n k x y = creates_one m.guest m it kept n k x y
-result_one (Ok (change.LoadSnapshot load)) m kept n k x y = loads_one (found m.saved load.files) m load n k x.1 y.1
-result_one (Ok (change.Tell part)) m kept n k x y = x.1 ∙ sym y.1
+result_one (Ok (call.PutMetadata body)) m kept n k x y = stores_one (put body) m n k x.1 y.1
+result_one (Ok (call.PatchMetadata patch)) m kept n k x y = stores_one (patched m.metadata patch) m n k x.1 y.1
+result_one (Ok (call.CreateSnapshot it)) m kept n k x y = creates_one m.guest m it kept n k x y
+result_one (Ok (call.LoadSnapshot load)) m kept n k x y = loads_one (found m.saved load.files) m load n k x.1 y.1
+result_one (Ok (call.PatchVm Paused)) m kept n k x y = x.1 ∙ sym y.1
+result_one (Ok (call.PatchVm Resumed)) m kept n k x y = x.1 ∙ sym y.1
+result_one (Ok it) m kept n k x y = x.1 ∙ sym y.1
 result_one (Err why) m kept n k x y = x.1 ∙ sym y.1
 
-fails_one : (it : Change) (m : Machine) (left : Left) (n k : Machine) → Fails m it left n → Fails m it left k → n ≡ k
-fails_one (change.BootSource source) m left n k x y = absurd x
-fails_one (change.PutDrive drive) m left n k x y = absurd x
-fails_one (change.PatchDrive patch) m left n k x y = x.3 ∙ sym y.3
-fails_one (change.PutInterface interface) m left n k x y = absurd x
-fails_one (change.PatchInterface patch) m left n k x y = absurd x
-fails_one (change.MachineConfig machine) m left n k x y = absurd x
-fails_one (change.PutVsock vsock) m left n k x y = absurd x
-fails_one (change.PutBalloon balloon) m left n k x y = absurd x
-fails_one (change.PatchBalloon patch) m left n k x y = absurd x
-fails_one (change.PatchStatistics patch) m left n k x y = absurd x
-fails_one (change.MmdsConfig mmds) m left n k x y = absurd x
-fails_one (change.PutMetadata body) m left n k x y = absurd x
-fails_one (change.PatchMetadata patch) m left n k x y = absurd x
-fails_one change.Start m left n k x y = x.1 ∙ sym y.1
-fails_one (change.State state) m left n k x y = absurd x
-fails_one (change.CreateSnapshot it) m left n k x y = create_fails_one m.guest m it left n k x y
-fails_one (change.LoadSnapshot load) m left n k x y = x.1 ∙ sym y.1
-fails_one (change.Tell part) m left n k x y = absurd x
+fails_one : (it : ApiCall) (m : Machine) (left : Left) (n k : Machine) → Fails m it left n → Fails m it left k → n ≡ k
+fails_one (call.PatchDrive patch) m left n k x y = x.3 ∙ sym y.3
+fails_one call.InstanceStart m left n k x y = x.1 ∙ sym y.1
+fails_one (call.CreateSnapshot it) m left n k x y = create_fails_one m.guest m it left n k x y
+fails_one (call.LoadSnapshot load) m left n k x y = x.1 ∙ sym y.1
+fails_one it m left n k x y = absurd x
 
 told_one : (m : Machine) (a b : Told) → TellsOf m a → TellsOf m b → a ≡ b
 told_one m a b x y = λ i. record {
@@ -172,7 +147,7 @@ told_one m a b x y = λ i. record {
   statistics = tells_one m.guest (balloon_device m.config) a.statistics b.statistics x.statistics_is y.statistics_is i;
 }
 
-answer_one : (r : Result Change Refusal) (m : Machine) (a b : Answer) → AnswersBy m r a → AnswersBy m r b → a ≡ b
+answer_one : (r : Result ApiCall Refusal) (m : Machine) (a b : Answer) → AnswersBy m r a → AnswersBy m r b → a ≡ b
 answer_one (Ok it) m a b (told, tells, is) (other, says, be) =
     is ∙ ap (accepted it) (told_one m told other tells says) ∙ sym be
 answer_one (Err why) m a b is be = is ∙ sym be
@@ -185,8 +160,8 @@ request_one : IsDetermined RequestStep
 request_one (Answered kept) given m t u n k x y =
     (responds_one m given t u x.0 y.0, result_one (allowed m given) m kept n k x.1 y.1)
 request_one (Failed left) given m t u n k (it, asks, fails, is) (other, asked, failed, be) =
-    let same = same_change other it (sym asked ∙ asks) in
-    (is ∙ sym be, fails_one it m left n k fails (subst (λ (c : Change). Fails m c left k) same failed))
+    let same = same_call other it (sym asked ∙ asks) in
+    (is ∙ sym be, fails_one it m left n k fails (subst (λ (c : ApiCall). Fails m c left k) same failed))
 request_one NoMemory given m t u n k x y = (x.0 ∙ sym y.0, x.1 ∙ sym y.1)
 
 pub talks_one : (bytes : List ℕ) (outcomes : List Outcome) (m n k : Machine) (t u : List Response) → Talks bytes outcomes m t n

@@ -8,13 +8,10 @@ use Rattle.vm_types.specs.declared.identity.Identity.{Identity}
 use Rattle.refusals.specs.declared.refusal.Refusal.{Refusal}
 use Rattle.refusals.specs.declared.refusal.Refusal.TheVariants as refusal
 use Rattle.http_stream.specs.declared.request.Next.{Next}
-use Rattle.api_calls.specs.declared.call.ApiCall.{ApiCall}
 use Rattle.api_calls.specs.declared.call.ApiCall.TheVariants as call
 use Rattle.api_calls.specs.declared.call.SnapshotCreate.{SnapshotCreate}
 use Rattle.api_calls.specs.declared.call.SnapshotFiles.{SnapshotFiles}
-use Rattle.vm_config.specs.declared.config.Config.{Config}
-use Rattle.vm_config.specs.declared.change.Change.TheVariants as change
-use Rattle.api_rules.specs.Table.{change_of, is_diff, is_paused, own_refusal}
+use Rattle.api_rules.specs.Table.{is_diff, is_paused, own_refusal}
 use Rattle.file_format.specs.Identities.{is_numbered}
 use Rattle.file_format.specs.Starts.{is_closed, is_other}
 use Rattle.file_format.specs.Versions.{version_of}
@@ -58,27 +55,6 @@ found_numbered saved files it is =
 
 -- ---- the next snapshot of a machine that is allowed a create has one too
 
-pub asked_for : (config : Config) (c : ApiCall) (it : SnapshotCreate) → change_of config c ≡ change.CreateSnapshot it → c ≡ call.CreateSnapshot it
-asked_for config (call.PutBootSource source) it is = absurd cc
-asked_for config (call.PutDrive drive) it is = absurd cc
-asked_for config (call.PatchDrive patch) it is = absurd cc
-asked_for config (call.PutInterface interface) it is = absurd cc
-asked_for config (call.PatchInterface patch) it is = absurd cc
-asked_for config (call.PutMachineConfig machine) it is = absurd cc
-asked_for config (call.PatchMachineConfig patch) it is = absurd cc
-asked_for config (call.PutVsock vsock) it is = absurd cc
-asked_for config (call.PutBalloon balloon) it is = absurd cc
-asked_for config (call.PatchBalloon patch) it is = absurd cc
-asked_for config (call.PatchStatistics patch) it is = absurd cc
-asked_for config (call.PutMmdsConfig mmds) it is = absurd cc
-asked_for config (call.PutMetadata body) it is = absurd cc
-asked_for config (call.PatchMetadata patch) it is = absurd cc
-asked_for config call.InstanceStart it is = absurd cc
-asked_for config (call.PatchVm state) it is = absurd cc
-asked_for config (call.CreateSnapshot own) it is = cc
-asked_for config (call.LoadSnapshot load) it is = absurd cc
-asked_for config (call.Get part) it is = absurd cc
-
 pub last_row : (first second third fourth : Bool) (why because last late : Refusal)
     → (if first then Some why else (if second then Some because else (if third then Some last else (if fourth then Some late else None)))) ≡ None
     → fourth ≡ false
@@ -88,19 +64,16 @@ last_row false false true fourth why because last late none = absurd cc
 last_row false false false true why because last late none = absurd cc
 last_row false false false false why because last late none = refl
 
-numbered : (m : Machine) (it : SnapshotCreate) (c : ApiCall) → c ≡ call.CreateSnapshot it → 1 ≤ m.ids.next
-    → own_refusal (phase_of m) m.config m.ids c ≡ None → IsTrue (is_numbered (next_identity m))
-numbered m it c is first own =
-    let rows = subst (λ (c : ApiCall). own_refusal (phase_of m) m.config m.ids c ≡ None) is own in
+numbered : (m : Machine) (it : SnapshotCreate) → 1 ≤ m.ids.next
+    → own_refusal (phase_of m) m.config m.ids (call.CreateSnapshot it) ≡ None → IsTrue (is_numbered (next_identity m))
+numbered m it first own =
     let small : m.ids.next < 2 ^ 63 =
     leb-false (2 ^ 63) m.ids.next
     (last_row (not (is_paused (phase_of m))) (is_diff it.snapshot_type && not m.config.machine.track_dirty_pages)
-    (is_diff it.snapshot_type && is_none m.ids.base) (nat_le (2 ^ 63) m.ids.next) refusal.NotPaused refusal.NotTracked refusal.NoBase refusal.NoSlotLeft rows) in
+    (is_diff it.snapshot_type && is_none m.ids.base) (nat_le (2 ^ 63) m.ids.next) refusal.NotPaused refusal.NotTracked refusal.NoBase refusal.NoSlotLeft own) in
     and_from (nat_lt 0 m.ids.next) (nat_lt m.ids.next 0x8000_0000_0000_0000) (lt-ltb 0 m.ids.next (omega (arith, first)))
     (lt-ltb m.ids.next 0x8000_0000_0000_0000 (omega (arith, small)))
 
-pub create_numbered : (m : Machine) (given : Next) (it : SnapshotCreate) → allowed m given ≡ Ok (change.CreateSnapshot it) → 1 ≤ m.ids.next
+pub create_numbered : (m : Machine) (given : Next) (it : SnapshotCreate) → allowed m given ≡ Ok (call.CreateSnapshot it) → 1 ≤ m.ids.next
     → IsTrue (is_numbered (next_identity m))
-create_numbered m given it is first =
-    let known = allowed_is m given (change.CreateSnapshot it) is in
-    numbered m it known.asked (asked_for m.config known.asked it known.change_is) first known.own
+create_numbered m given it is first = numbered m it first (allowed_is m given (call.CreateSnapshot it) is).own

@@ -8,8 +8,8 @@ use Rattle.http_stream.specs.Sent.{sent}
 use Rattle.script_text.specs.declared.item.Item.{Item}
 use Rattle.script_text.specs.declared.item.Item.TheVariants as item
 use Rattle.api_calls.specs.declared.call.SnapshotCreate.{SnapshotCreate}
-use Rattle.vm_config.specs.declared.change.Change.{Change}
-use Rattle.vm_config.specs.declared.change.Change.TheVariants as change
+use Rattle.api_calls.specs.declared.call.ApiCall.{ApiCall}
+use Rattle.api_calls.specs.declared.call.ApiCall.TheVariants as call
 use Rattle.responses.specs.Responses.{Response}
 use Rattle.guest_devices.specs.declared.device.Device.{Device}
 use Rattle.guest_devices.specs.Devices.{FlatDevice, device_reset}
@@ -34,9 +34,9 @@ create_keeps None m it kept n none x = x.0
 create_keeps (Some g) m it kept n none (copy, of, tells, saved, is) =
     sym tells ∙ of_none copy.devices (subst (λ (l : List FlatDevice). AreKept copy.devices (map device_reset l)) none of.2)
 
-result_keeps : (r : Result Change Refusal) (m : Machine) (kept : List Device) (n : Machine) → devices_of m.guest ≡ [] → LeavesBy m r kept n
+result_keeps : (r : Result ApiCall Refusal) (m : Machine) (kept : List Device) (n : Machine) → devices_of m.guest ≡ [] → LeavesBy m r kept n
     → kept ≡ []
-result_keeps (Ok (change.CreateSnapshot it)) m kept n none x = create_keeps m.guest m it kept n none x
+result_keeps (Ok (call.CreateSnapshot it)) m kept n none x = create_keeps m.guest m it kept n none x
 result_keeps (Ok it) m kept n none x = x.0
 result_keeps (Err why) m kept n none x = x.0
 

@@ -28,12 +28,11 @@ use Rattle.api_calls.specs.declared.call.SnapshotCreate.{SnapshotCreate}
 use Rattle.api_calls.specs.declared.call.SnapshotLoad.{SnapshotLoad}
 use Rattle.api_calls.specs.declared.call.VmState.TheVariants.{Paused, Resumed}
 use Rattle.vm_config.specs.declared.config.Config.{Config}
-use Rattle.vm_config.specs.declared.change.Change.{Change}
-use Rattle.vm_config.specs.declared.change.Change.TheVariants as change
-use Rattle.vm_config.specs.Changes.{changed}
+use Rattle.api_calls.specs.declared.call.ApiCall.{ApiCall}
+use Rattle.api_calls.specs.declared.call.ApiCall.TheVariants as call
 use Rattle.vm_config.specs.Devices.{balloon_device, interface_device}
 use Rattle.vm_config.specs.Drives.{device_of}
-use Rattle.api_rules.specs.Table.{has_started}
+use Rattle.api_rules.specs.Table.{changed, has_started}
 use Rattle.script_text.specs.declared.item.Item.{Item}
 use Rattle.script_text.specs.declared.item.Item.TheVariants as item
 use Rattle.responses.specs.Responses.{Response}
@@ -88,10 +87,10 @@ base_later next more (Some base) later (first, below) = (first, omega (arith, be
 
 -- ---- what is configured, and told to its devices
 
-patch_ready : (m : Machine) (patch : DrivePatch) → Ready m → IsTaken (changed m.config (change.PatchDrive patch))
-    → Ready (configured (patched_drive m patch) (change.PatchDrive patch))
+patch_ready : (m : Machine) (patch : DrivePatch) → Ready m → IsTaken (changed m.config (call.PatchDrive patch))
+    → Ready (configured (patched_drive m patch) (call.PatchDrive patch))
 patch_ready m patch ready taken =
-    let after : Config = changed m.config (change.PatchDrive patch) in
+    let after : Config = changed m.config (call.PatchDrive patch) in
     let number : Option ℕ = device_of m.config.drives patch.drive_id in record {
       taken = taken;
       guest =
@@ -101,10 +100,10 @@ patch_ready m patch ready taken =
       base = ready.base;
     }
 
-limits_ready : (m : Machine) (patch : InterfacePatch) → Ready m → IsTaken (changed m.config (change.PatchInterface patch))
-    → Ready (configured (patched_interface m patch) (change.PatchInterface patch))
+limits_ready : (m : Machine) (patch : InterfacePatch) → Ready m → IsTaken (changed m.config (call.PatchInterface patch))
+    → Ready (configured (patched_interface m patch) (call.PatchInterface patch))
 limits_ready m patch ready taken =
-    let after : Config = changed m.config (change.PatchInterface patch) in
+    let after : Config = changed m.config (call.PatchInterface patch) in
     let number : Option ℕ = interface_device m.config patch.iface_id in record {
       taken = taken;
       guest =
@@ -116,10 +115,10 @@ limits_ready m patch ready taken =
       base = ready.base;
     }
 
-amount_ready : (m : Machine) (patch : BalloonPatch) → Ready m → IsTaken (changed m.config (change.PatchBalloon patch))
-    → Ready (configured (patched_balloon m patch) (change.PatchBalloon patch))
+amount_ready : (m : Machine) (patch : BalloonPatch) → Ready m → IsTaken (changed m.config (call.PatchBalloon patch))
+    → Ready (configured (patched_balloon m patch) (call.PatchBalloon patch))
 amount_ready m patch ready taken =
-    let after : Config = changed m.config (change.PatchBalloon patch) in record {
+    let after : Config = changed m.config (call.PatchBalloon patch) in record {
       taken = taken;
       guest =
           retargeted_ready after m.paused after.balloon (balloon_device m.config) m.guest
@@ -128,10 +127,10 @@ amount_ready m patch ready taken =
       base = ready.base;
     }
 
-interval_ready : (m : Machine) (patch : StatisticsPatch) → Ready m → IsTaken (changed m.config (change.PatchStatistics patch))
-    → Ready (configured (patched_statistics m patch) (change.PatchStatistics patch))
+interval_ready : (m : Machine) (patch : StatisticsPatch) → Ready m → IsTaken (changed m.config (call.PatchStatistics patch))
+    → Ready (configured (patched_statistics m patch) (call.PatchStatistics patch))
 interval_ready m patch ready taken =
-    let after : Config = changed m.config (change.PatchStatistics patch) in record {
+    let after : Config = changed m.config (call.PatchStatistics patch) in record {
       taken = taken;
       guest =
           retimed_ready after m.paused after.balloon (balloon_device m.config) m.guest
@@ -169,7 +168,7 @@ module _ (m : Machine) (image : List ℕ) (ready : Ready m) (there : image_of m 
       let own = some_source m.config.boot_source m.saved image there in
       taken_configured m.config own.0 own.1 ready.taken
 
-  start_guest : IsReadyGuest (changed m.config change.Start) false new_guest
+  start_guest : IsReadyGuest (changed m.config call.InstanceStart) false new_guest
   start_guest =
       let within = bounded m.config ready.taken in
       let devices : List NewDevice = devices_from m.config m.saved in record {
@@ -199,21 +198,21 @@ module _ (m : Machine) (image : List ℕ) (ready : Ready m) (there : image_of m 
       }
 
 start_ready : (image : Option (List ℕ)) (m : Machine) → Ready m → image_of m ≡ image → start_refusal m.config m.saved ≡ None
-    → (has_started (phase_of m) ≡ true → ⊥) → Ready (configured (started_from image (disk_of m) m) change.Start)
+    → (has_started (phase_of m) ≡ true → ⊥) → Ready (configured (started_from image (disk_of m) m) call.InstanceStart)
 start_ready None m ready there none new = record {
-  taken = changed_taken m.config change.Start ready.taken tt;
-  guest = early m (changed m.config change.Start) m.guest refl new;
+  taken = changed_taken m.config call.InstanceStart ready.taken tt;
+  guest = early m (changed m.config call.InstanceStart) m.guest refl new;
   next = ready.next;
   base = ready.base;
 }
 start_ready (Some image) m ready there none new = record {
-  taken = changed_taken m.config change.Start ready.taken tt;
+  taken = changed_taken m.config call.InstanceStart ready.taken tt;
   guest = start_guest m image ready there none;
   next = ready.next;
   base = ready.base;
 }
 
--- ---- what a change leaves
+-- ---- what a call leaves
 
 create_ready : (guest : Option Guest) (m : Machine) (it : SnapshotCreate) (kept : List Device) (n : Machine) → Ready m
     → ReadyBy m.config m.paused guest → Creates guest m it kept n → Ready n
@@ -246,71 +245,46 @@ store_ready (Ok kept) m n ready is =
     ready_is (record m { metadata = kept }) n is (record { taken = ready.taken; guest = ready.guest; next = ready.next; base = ready.base })
 store_ready (Err why) m n ready is = ready_is m n is ready
 
--- a change of what is configured before a start
-configures : (m : Machine) (it : Change) → Ready m → IsTaken (changed m.config it) → (has_started (phase_of m) ≡ true → ⊥)
+-- what is configured before a start
+configures : (m : Machine) (it : ApiCall) → Ready m → IsTaken (changed m.config it) → (has_started (phase_of m) ≡ true → ⊥)
     → Ready (configured m it)
 configures m it ready taken new = record { taken = taken; guest = early m (changed m.config it) m.guest refl new; next = ready.next; base = ready.base }
 
-pub leaves_ready : (it : Change) (m n : Machine) → Ready m → IsAllowed m it → Leaves m it n → Ready n
-leaves_ready (change.BootSource source) m n ready known is =
-    let it : Change = change.BootSource source in
-    ready_is (configured m it) n is
-    (configures m it ready (changed_taken m.config it ready.taken (allowed_fits m it ready.taken known)) (λ on. allowed_later m it on known))
-leaves_ready (change.PutDrive drive) m n ready known is =
-    let it : Change = change.PutDrive drive in
-    ready_is (configured m it) n is
-    (configures m it ready (changed_taken m.config it ready.taken (allowed_fits m it ready.taken known)) (λ on. allowed_later m it on known))
-leaves_ready (change.MachineConfig machine) m n ready known is =
-    let it : Change = change.MachineConfig machine in
-    ready_is (configured m it) n is
-    (configures m it ready (changed_taken m.config it ready.taken (allowed_fits m it ready.taken known)) (λ on. allowed_later m it on known))
-leaves_ready (change.PatchDrive patch) m n ready known is =
-    let it : Change = change.PatchDrive patch in
+pub leaves_ready : (it : ApiCall) (m n : Machine) → Ready m → IsAllowed m it → Leaves m it n → Ready n
+leaves_ready (call.PatchDrive patch) m n ready known is =
+    let it : ApiCall = call.PatchDrive patch in
     ready_is (configured (patched_drive m patch) it) n is
     (patch_ready m patch ready (changed_taken m.config it ready.taken (allowed_fits m it ready.taken known)))
-leaves_ready (change.PutInterface interface) m n ready known is =
-    let it : Change = change.PutInterface interface in
-    ready_is (configured m it) n is
-    (configures m it ready (changed_taken m.config it ready.taken (allowed_fits m it ready.taken known)) (λ on. allowed_later m it on known))
-leaves_ready (change.PatchInterface patch) m n ready known is =
-    let it : Change = change.PatchInterface patch in
+leaves_ready (call.PatchInterface patch) m n ready known is =
+    let it : ApiCall = call.PatchInterface patch in
     ready_is (configured (patched_interface m patch) it) n is
     (limits_ready m patch ready (changed_taken m.config it ready.taken (allowed_fits m it ready.taken known)))
-leaves_ready (change.PutVsock vsock) m n ready known is =
-    let it : Change = change.PutVsock vsock in
-    ready_is (configured m it) n is
-    (configures m it ready (changed_taken m.config it ready.taken (allowed_fits m it ready.taken known)) (λ on. allowed_later m it on known))
-leaves_ready (change.PutBalloon balloon) m n ready known is =
-    let it : Change = change.PutBalloon balloon in
-    ready_is (configured m it) n is
-    (configures m it ready (changed_taken m.config it ready.taken (allowed_fits m it ready.taken known)) (λ on. allowed_later m it on known))
-leaves_ready (change.PatchBalloon patch) m n ready known is =
-    let it : Change = change.PatchBalloon patch in
+leaves_ready (call.PatchBalloon patch) m n ready known is =
+    let it : ApiCall = call.PatchBalloon patch in
     ready_is (configured (patched_balloon m patch) it) n is
     (amount_ready m patch ready (changed_taken m.config it ready.taken (allowed_fits m it ready.taken known)))
-leaves_ready (change.PatchStatistics patch) m n ready known is =
-    let it : Change = change.PatchStatistics patch in
+leaves_ready (call.PatchStatistics patch) m n ready known is =
+    let it : ApiCall = call.PatchStatistics patch in
     ready_is (configured (patched_statistics m patch) it) n is
     (interval_ready m patch ready (changed_taken m.config it ready.taken (allowed_fits m it ready.taken known)))
-leaves_ready (change.MmdsConfig mmds) m n ready known is =
-    let it : Change = change.MmdsConfig mmds in
-    ready_is (configured m it) n is
-    (configures m it ready (changed_taken m.config it ready.taken (allowed_fits m it ready.taken known)) (λ on. allowed_later m it on known))
-leaves_ready change.Start m n ready known is =
-    let none = (not_refused (start_refusal m.config m.saved) (Ok change.Start) change.Start known.contents).0 in
-    ready_is (configured (started_from (image_of m) (disk_of m) m) change.Start) n is
-    (start_ready (image_of m) m ready refl none (λ on. allowed_later m change.Start on known))
-leaves_ready (change.State Paused) m n ready known is =
+leaves_ready call.InstanceStart m n ready known is =
+    let none = (not_refused (start_refusal m.config m.saved) (Ok call.InstanceStart) call.InstanceStart known.contents).0 in
+    ready_is (configured (started_from (image_of m) (disk_of m) m) call.InstanceStart) n is
+    (start_ready (image_of m) m ready refl none (λ on. allowed_later m call.InstanceStart on known))
+leaves_ready (call.PatchVm Paused) m n ready known is =
     ready_is (record m { guest = halted m.paused m.guest; paused = true }) n is
     (record { taken = ready.taken; guest = halted_ready m.config m.paused m.guest ready.guest; next = ready.next; base = ready.base })
-leaves_ready (change.State Resumed) m n ready known is =
+leaves_ready (call.PatchVm Resumed) m n ready known is =
     ready_is (record m { paused = false }) n is
     (record { taken = ready.taken; guest = resumed_ready m.config m.paused m.guest ready.guest; next = ready.next; base = ready.base })
-leaves_ready (change.CreateSnapshot it) m n ready known (kept, x) = create_ready m.guest m it kept n ready ready.guest x
-leaves_ready (change.LoadSnapshot load) m n ready known x = load_ready (found m.saved load.files) m load n refl ready x
-leaves_ready (change.PutMetadata body) m n ready known x = store_ready (put body) m n ready x
-leaves_ready (change.PatchMetadata patch) m n ready known x = store_ready (patched m.metadata patch) m n ready x
-leaves_ready (change.Tell part) m n ready known is = ready_is m n is ready
+leaves_ready (call.CreateSnapshot it) m n ready known (kept, x) = create_ready m.guest m it kept n ready ready.guest x
+leaves_ready (call.LoadSnapshot load) m n ready known x = load_ready (found m.saved load.files) m load n refl ready x
+leaves_ready (call.PutMetadata body) m n ready known x = store_ready (put body) m n ready x
+leaves_ready (call.PatchMetadata patch) m n ready known x = store_ready (patched m.metadata patch) m n ready x
+leaves_ready (call.Get part) m n ready known is = ready_is m n is ready
+leaves_ready it m n ready known is =
+    ready_is (configured m it) n is
+    (configures m it ready (changed_taken m.config it ready.taken (allowed_fits m it ready.taken known)) (λ on. allowed_later m it on known))
 
 -- ---- and where a call on the files failed
 
@@ -325,29 +299,16 @@ create_fails_ready (Some g) m it left n ready short =
       base = base_later m.ids.next (m.ids.next + 1) m.ids.base (omega arith) ready.base;
     })
 
-fails_ready : (it : Change) (m : Machine) (left : Left) (n : Machine) → Ready m → Fails m it left n → Ready n
-fails_ready (change.BootSource source) m left n ready x = absurd x
-fails_ready (change.PutDrive drive) m left n ready x = absurd x
-fails_ready (change.PatchDrive patch) m left n ready x = ready_is m n x.3 ready
-fails_ready (change.MachineConfig machine) m left n ready x = absurd x
-fails_ready change.Start m left n ready x = ready_is m n x.1 ready
-fails_ready (change.State state) m left n ready x = absurd x
-fails_ready (change.CreateSnapshot it) m left n ready x = create_fails_ready m.guest m it left n ready x
-fails_ready (change.LoadSnapshot load) m left n ready x = ready_is m n x.1 ready
-fails_ready (change.PutInterface interface) m left n ready x = absurd x
-fails_ready (change.PatchInterface patch) m left n ready x = absurd x
-fails_ready (change.PutVsock vsock) m left n ready x = absurd x
-fails_ready (change.PutBalloon balloon) m left n ready x = absurd x
-fails_ready (change.PatchBalloon patch) m left n ready x = absurd x
-fails_ready (change.PatchStatistics patch) m left n ready x = absurd x
-fails_ready (change.MmdsConfig mmds) m left n ready x = absurd x
-fails_ready (change.PutMetadata body) m left n ready x = absurd x
-fails_ready (change.PatchMetadata patch) m left n ready x = absurd x
-fails_ready (change.Tell part) m left n ready x = absurd x
+fails_ready : (it : ApiCall) (m : Machine) (left : Left) (n : Machine) → Ready m → Fails m it left n → Ready n
+fails_ready (call.PatchDrive patch) m left n ready x = ready_is m n x.3 ready
+fails_ready call.InstanceStart m left n ready x = ready_is m n x.1 ready
+fails_ready (call.CreateSnapshot it) m left n ready x = create_fails_ready m.guest m it left n ready x
+fails_ready (call.LoadSnapshot load) m left n ready x = ready_is m n x.1 ready
+fails_ready it m left n ready x = absurd x
 
 -- ---- what is due is answered
 
-result_ready : (result : Result Change Refusal) (given : Next) (m : Machine) (kept : List Device) (n : Machine) → Ready m
+result_ready : (result : Result ApiCall Refusal) (given : Next) (m : Machine) (kept : List Device) (n : Machine) → Ready m
     → allowed m given ≡ result → LeavesBy m result kept n → Ready n
 result_ready (Ok it) given m kept n ready is x = leaves_ready it m n ready (allowed_is m given it is) (leaves_of it m kept n x)
 result_ready (Err why) given m kept n ready is x = ready_is m n x.1 ready

@@ -15,8 +15,9 @@ use Rattle.api_calls.specs.declared.interface.InterfacePatch.{InterfacePatch}
 use Rattle.api_calls.specs.declared.limiter.Limiter.{Limiter}
 use Rattle.api_calls.specs.declared.vsock.Vsock.{Vsock}
 use Rattle.vm_config.specs.declared.config.Config.{Config}
-use Rattle.vm_config.specs.declared.change.Change.TheVariants as change
-use Rattle.vm_config.specs.Changes.{changed, with_amount, with_interval}
+use Rattle.api_calls.specs.declared.call.ApiCall.TheVariants as call
+use Rattle.vm_config.specs.Changes.{with_amount, with_interval}
+use Rattle.api_rules.specs.Table.{changed}
 use Rattle.vm_config.specs.Devices.{Configured, balloon_count, balloon_devices, device_count, devices_in, devices_of, of_balloon, of_drive, of_interface, of_vsock, vsock_count, vsock_devices}
 use Rattle.vm_config.specs.Drives.{in_order}
 use Rattle.vm_config.proofs.DeviceLemmas.{counted, length-ordered}
@@ -140,38 +141,38 @@ module _ (config after : Config) (paused : Bool) (taken : IsTaken after) (source
   }
 
 -- by a PATCH of a drive, of the balloon, and of the interval of its reports
-pub drive_patched : (config : Config) (patch : DrivePatch) (paused : Bool) (guest : Option Guest) → IsTaken (changed config (change.PatchDrive patch))
-    → ReadyBy config paused guest → ReadyBy (changed config (change.PatchDrive patch)) paused guest
+pub drive_patched : (config : Config) (patch : DrivePatch) (paused : Bool) (guest : Option Guest) → IsTaken (changed config (call.PatchDrive patch))
+    → ReadyBy config paused guest → ReadyBy (changed config (call.PatchDrive patch)) paused guest
 drive_patched config patch paused guest taken is =
-    let after : Config = changed config (change.PatchDrive patch) in
+    let after : Config = changed config (call.PatchDrive patch) in
     let many = length-patched patch config.drives in
     let kinds = kinds_alike config.drives after.drives config.interfaces config.interfaces config.vsock config.balloon config.balloon (sym many) refl refl in
     let count = ap (λ (n : ℕ). n + length config.interfaces + vsock_count config.vsock + balloon_count config.balloon) (sym many) in
     reconfigured config after paused taken refl refl kinds count guest is
 
 pub interface_patched : (config : Config) (patch : InterfacePatch) (paused : Bool) (guest : Option Guest)
-    → IsTaken (changed config (change.PatchInterface patch)) → ReadyBy config paused guest
-    → ReadyBy (changed config (change.PatchInterface patch)) paused guest
+    → IsTaken (changed config (call.PatchInterface patch)) → ReadyBy config paused guest
+    → ReadyBy (changed config (call.PatchInterface patch)) paused guest
 interface_patched config patch paused guest taken is =
-    let after : Config = changed config (change.PatchInterface patch) in
+    let after : Config = changed config (call.PatchInterface patch) in
     let many = many_patched patch config.interfaces in
     let kinds = kinds_alike config.drives config.drives config.interfaces after.interfaces config.vsock config.balloon config.balloon refl (sym many) refl in
     let count = ap (λ (n : ℕ). length config.drives + n + vsock_count config.vsock + balloon_count config.balloon) (sym many) in
     reconfigured config after paused taken refl refl kinds count guest is
 
-pub amount_patched : (config : Config) (patch : BalloonPatch) (paused : Bool) (guest : Option Guest) → IsTaken (changed config (change.PatchBalloon patch))
-    → ReadyBy config paused guest → ReadyBy (changed config (change.PatchBalloon patch)) paused guest
+pub amount_patched : (config : Config) (patch : BalloonPatch) (paused : Bool) (guest : Option Guest) → IsTaken (changed config (call.PatchBalloon patch))
+    → ReadyBy config paused guest → ReadyBy (changed config (call.PatchBalloon patch)) paused guest
 amount_patched config patch paused guest taken is =
-    let after : Config = changed config (change.PatchBalloon patch) in
+    let after : Config = changed config (call.PatchBalloon patch) in
     let kinds = kinds_alike config.drives config.drives config.interfaces config.interfaces config.vsock config.balloon after.balloon refl refl (amount_alike patch config.balloon) in
     let count = ap (λ (n : ℕ). length config.drives + length config.interfaces + vsock_count config.vsock + n) (amount_count patch config.balloon) in
     reconfigured config after paused taken refl refl kinds count guest is
 
 pub interval_patched : (config : Config) (patch : StatisticsPatch) (paused : Bool) (guest : Option Guest)
-    → IsTaken (changed config (change.PatchStatistics patch)) → ReadyBy config paused guest
-    → ReadyBy (changed config (change.PatchStatistics patch)) paused guest
+    → IsTaken (changed config (call.PatchStatistics patch)) → ReadyBy config paused guest
+    → ReadyBy (changed config (call.PatchStatistics patch)) paused guest
 interval_patched config patch paused guest taken is =
-    let after : Config = changed config (change.PatchStatistics patch) in
+    let after : Config = changed config (call.PatchStatistics patch) in
     let kinds = kinds_alike config.drives config.drives config.interfaces config.interfaces config.vsock config.balloon after.balloon refl refl (interval_alike patch config.balloon) in
     let count = ap (λ (n : ℕ). length config.drives + length config.interfaces + vsock_count config.vsock + n) (interval_count patch config.balloon) in
     reconfigured config after paused taken refl refl kinds count guest is

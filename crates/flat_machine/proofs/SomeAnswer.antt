@@ -13,8 +13,8 @@ use Rattle.api_calls.specs.declared.call.SnapshotLoad.{SnapshotLoad}
 use Rattle.api_calls.specs.declared.call.VmState.TheVariants.{Paused, Resumed}
 use Rattle.vm_config.specs.Devices.{balloon_device}
 use Rattle.vm_config.specs.Texts.{Told}
-use Rattle.vm_config.specs.declared.change.Change.{Change}
-use Rattle.vm_config.specs.declared.change.Change.TheVariants as change
+use Rattle.api_calls.specs.declared.call.ApiCall.{ApiCall}
+use Rattle.api_calls.specs.declared.call.ApiCall.TheVariants as call
 use Rattle.api_rules.specs.declared.answer.Answer.{Answer}
 use Rattle.api_rules.specs.Answers.{accepted, refused}
 use Rattle.responses.specs.Responses.{Response}
@@ -33,13 +33,13 @@ use Rattle.flat_machine.proofs.Numbered.{create_numbered}
 use Rattle.flat_machine.proofs.Ready.{can_be_copied, request_ready}
 use Rattle.flat_machine.proofs.Telling.{tells_some}
 
--- ---- what a change leaves
+-- ---- what a call leaves
 
 -- the machine answers, and keeps something of its devices
 abbrev AnsweredStep : Unit {0} → Next → Machine → List Response → Machine → Type 0
 AnsweredStep how given m text n = (kept : List Device) × RequestStep (Answered kept) given m text n
 
--- a change leaves something, with something kept of the devices
+-- a call leaves something, with something kept of the devices
 abbrev Left : (List Device → Machine → Type 0) → Type 0
 Left Leaves = (kept : List Device) × (n : Machine) × Leaves kept n
 
@@ -63,31 +63,25 @@ some_store : (due : Result Data Refusal) (m : Machine) → (n : Machine) × Stor
 some_store (Ok kept) m = (record m { metadata = kept }, refl)
 some_store (Err why) m = (m, refl)
 
-some_change : (it : Change) (m : Machine) (given : Next) → allowed m given ≡ Ok it → Ready m → HasFields m → Left (LeavesBy m (Ok it))
-some_change (change.BootSource source) m given is ready fields = ([], configured m (change.BootSource source), (refl, refl))
-some_change (change.PutDrive drive) m given is ready fields = ([], configured m (change.PutDrive drive), (refl, refl))
-some_change (change.PatchDrive patch) m given is ready fields = ([], configured (patched_drive m patch) (change.PatchDrive patch), (refl, refl))
-some_change (change.PutInterface interface) m given is ready fields = ([], configured m (change.PutInterface interface), (refl, refl))
-some_change (change.PatchInterface patch) m given is ready fields =
-    ([], configured (patched_interface m patch) (change.PatchInterface patch), (refl, refl))
-some_change (change.MachineConfig machine) m given is ready fields = ([], configured m (change.MachineConfig machine), (refl, refl))
-some_change (change.PutVsock vsock) m given is ready fields = ([], configured m (change.PutVsock vsock), (refl, refl))
-some_change (change.PutBalloon balloon) m given is ready fields = ([], configured m (change.PutBalloon balloon), (refl, refl))
-some_change (change.PatchBalloon patch) m given is ready fields = ([], configured (patched_balloon m patch) (change.PatchBalloon patch), (refl, refl))
-some_change (change.PatchStatistics patch) m given is ready fields =
-    ([], configured (patched_statistics m patch) (change.PatchStatistics patch), (refl, refl))
-some_change (change.MmdsConfig mmds) m given is ready fields = ([], configured m (change.MmdsConfig mmds), (refl, refl))
-some_change (change.PutMetadata body) m given is ready fields = let left = some_store (put body) m in ([], left.0, (refl, left.1))
-some_change (change.PatchMetadata patch) m given is ready fields = let left = some_store (patched m.metadata patch) m in ([], left.0, (refl, left.1))
-some_change change.Start m given is ready fields = ([], configured (started_from (image_of m) (disk_of m) m) change.Start, (refl, refl))
-some_change (change.State Paused) m given is ready fields = ([], record m { guest = halted m.paused m.guest; paused = true }, (refl, refl))
-some_change (change.State Resumed) m given is ready fields = ([], record m { paused = false }, (refl, refl))
-some_change (change.CreateSnapshot it) m given is ready fields =
+some_change : (it : ApiCall) (m : Machine) (given : Next) → allowed m given ≡ Ok it → Ready m → HasFields m → Left (LeavesBy m (Ok it))
+some_change (call.PatchDrive patch) m given is ready fields = ([], configured (patched_drive m patch) (call.PatchDrive patch), (refl, refl))
+some_change (call.PatchInterface patch) m given is ready fields =
+    ([], configured (patched_interface m patch) (call.PatchInterface patch), (refl, refl))
+some_change (call.PatchBalloon patch) m given is ready fields = ([], configured (patched_balloon m patch) (call.PatchBalloon patch), (refl, refl))
+some_change (call.PatchStatistics patch) m given is ready fields =
+    ([], configured (patched_statistics m patch) (call.PatchStatistics patch), (refl, refl))
+some_change (call.PutMetadata body) m given is ready fields = let left = some_store (put body) m in ([], left.0, (refl, left.1))
+some_change (call.PatchMetadata patch) m given is ready fields = let left = some_store (patched m.metadata patch) m in ([], left.0, (refl, left.1))
+some_change call.InstanceStart m given is ready fields = ([], configured (started_from (image_of m) (disk_of m) m) call.InstanceStart, (refl, refl))
+some_change (call.PatchVm Paused) m given is ready fields = ([], record m { guest = halted m.paused m.guest; paused = true }, (refl, refl))
+some_change (call.PatchVm Resumed) m given is ready fields = ([], record m { paused = false }, (refl, refl))
+some_change (call.CreateSnapshot it) m given is ready fields =
     some_create m.guest m it refl (create_numbered m given it is ready.next) ready fields
-some_change (change.LoadSnapshot load) m given is ready fields = let left = some_load (found m.saved load.files) m load in ([], left.0, (refl, left.1))
-some_change (change.Tell part) m given is ready fields = ([], m, (refl, refl))
+some_change (call.LoadSnapshot load) m given is ready fields = let left = some_load (found m.saved load.files) m load in ([], left.0, (refl, left.1))
+some_change (call.Get part) m given is ready fields = ([], m, (refl, refl))
+some_change it m given is ready fields = ([], configured m it, (refl, refl))
 
-some_result : (made : Result Change Refusal) (m : Machine) (given : Next) → allowed m given ≡ made → Ready m → HasFields m
+some_result : (made : Result ApiCall Refusal) (m : Machine) (given : Next) → allowed m given ≡ made → Ready m → HasFields m
     → Left (LeavesBy m made)
 some_result (Ok it) m given is ready fields = some_change it m given is ready fields
 some_result (Err why) m given is ready fields = ([], m, (refl, refl))
@@ -95,7 +89,7 @@ some_result (Err why) m given is ready fields = ([], m, (refl, refl))
 -- ---- what is due is answered
 
 -- by what there is to tell
-some_answer : (made : Result Change Refusal) (m : Machine) → Ready m → (answer : Answer) × AnswersBy m made answer
+some_answer : (made : Result ApiCall Refusal) (m : Machine) → Ready m → (answer : Answer) × AnswersBy m made answer
 some_answer (Ok it) m ready =
     let says = tells_some m.config m.paused m.guest (balloon_device m.config) ready.guest in
     let told : Told =

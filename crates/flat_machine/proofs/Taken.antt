@@ -1,4 +1,4 @@
--- What the API takes is as a state file has it, and stays so with every change that is allowed.
+-- What the API takes is as a state file has it, and stays so with every call that is allowed.
 use Rattle.std.proofs.Common.{◌≡◌, ◌≤◌, ◌*◌, ◌^◌, ℕ, Bool, true, false, ◌&&◌, nat_le, if◌then◌else◌, refl, sym, subst, ◌∙◌, ◌<◌, List, length, replicate, Option, Some, None, Ok, arith}
 use Rattle.std.specs.Prelude.{IsTrue, is_none, nat_lt, unwrap_or}
 use Rattle.std.specs.Str.{is_utf8}
@@ -22,13 +22,11 @@ use Rattle.api_calls.specs.Form.{holds, is_path, is_short_text}
 use Rattle.api_calls.proofs.Asked.{IsAsked, asked_is}
 use Rattle.api_calls.proofs.Ranges.{IsWithin}
 use Rattle.vm_config.specs.declared.config.Config.{Config}
-use Rattle.vm_config.specs.declared.change.Change.{Change}
-use Rattle.vm_config.specs.declared.change.Change.TheVariants as change
 use Rattle.vm_config.specs.declared.config.Phase.{Phase}
-use Rattle.vm_config.specs.Changes.{changed, default_config, with_amount, with_interval}
+use Rattle.vm_config.specs.Changes.{default_config, with_amount, with_fields, with_interval}
 use Rattle.vm_config.specs.Devices.{count_in, device_count}
 use Rattle.api_rules.specs.declared.ids.Ids.{Ids}
-use Rattle.api_rules.specs.Table.{amount_of, change_of, decision, is_beyond, misplaced, own_refusal, patched, unless, when_allowed}
+use Rattle.api_rules.specs.Table.{amount_of, changed, decision, is_beyond, misplaced, own_refusal, unless, when_allowed}
 use Rattle.devtree.specs.Machine.{args_by}
 use Rattle.snap_state.specs.Valid.{are_paths, has_room, is_balloon, is_machine, is_source, is_valid, is_vsock}
 use Rattle.snap_state.specs.declared.copy.StateCopy.{StateCopy}
@@ -37,8 +35,8 @@ use Rattle.flat_snapshot.specs.Copies.{source_of}
 use Rattle.flat_snapshot.specs.Ready.{IsConfigured}
 use Rattle.flat_snapshot.proofs.CarriedReady.{carried_ready}
 use Rattle.flat_machine.specs.Machine.{Machine, phase_of}
-use Rattle.flat_machine.specs.Ready.{IsFitting, IsSourceBy, IsTaken}
-use Rattle.flat_machine.proofs.Allowed.{IsAllowed, not_refused, same_change}
+use Rattle.flat_machine.specs.Ready.{IsFitting, IsHeld, IsSourceBy, IsTaken}
+use Rattle.flat_machine.proofs.Allowed.{IsAllowed, not_refused, same_call}
 use Rattle.flat_machine.proofs.Drives.{length-patched, patch_told, put_told}
 use Rattle.flat_machine.proofs.Interfaces.{interface_put, limits_patched, many_patched}
 use Rattle.flat_machine.proofs.Mmds.{mmds_given, mmds_patched, mmds_put}
@@ -82,7 +80,7 @@ bounded config taken =
       drives = leb-true (device_count config) 16 taken.room;
     }
 
--- ---- a change of what is asked
+-- ---- what is asked
 
 first_row : (first second : Bool) (why because : Refusal) → (if first then Some why else (if second then Some because else None)) ≡ None
     → first ≡ false
@@ -171,7 +169,7 @@ given_within None n least most old new = old
 given_within (Some k) n least most old new = new k refl
 
 module _ (p : Phase) (config : Config) (ids : Ids) (taken : IsTaken config) where
-  call_fits : (c : ApiCall) → IsAsked c → own_refusal p config ids c ≡ None → IsFitting config (change_of config c)
+  call_fits : (c : ApiCall) → IsAsked c → own_refusal p config ids c ≡ None → IsFitting config c
   call_fits (call.PutBootSource source) asked own =
       and_from _ (is_short_text 2048 source.boot_args)
       (and_from (is_path source.kernel_image_path) (are_paths source.initrd_path) asked.0 (paths_are source.initrd_path asked.1))
@@ -192,9 +190,9 @@ module _ (p : Phase) (config : Config) (ids : Ids) (taken : IsTaken config) wher
   )
   call_fits (call.PatchMachineConfig patch) asked own =
       let old = machine_within config.machine taken.machine in (
-        machine_is (patched config.machine patch) (given_within patch.vcpu_count config.machine.vcpu_count 1 32 old.0 asked.0)
+        machine_is (with_fields patch config.machine) (given_within patch.vcpu_count config.machine.vcpu_count 1 32 old.0 asked.0)
             (given_within patch.mem_size_mib config.machine.mem_size_mib 4 4096 old.1 asked.1),
-        amount_fits (patched config.machine patch).mem_size_mib config.machine.mem_size_mib config.balloon
+        amount_fits (with_fields patch config.machine).mem_size_mib config.machine.mem_size_mib config.balloon
             (within _ _ (only_row _ _ own)) taken.balloon,
       )
   call_fits (call.PutVsock vsock) asked own = (
@@ -209,32 +207,21 @@ module _ (p : Phase) (config : Config) (ids : Ids) (taken : IsTaken config) wher
   call_fits (call.PatchBalloon patch) asked own = within config.machine.mem_size_mib patch.amount_mib (second_row _ _ _ _ own)
   call_fits (call.PatchStatistics patch) asked own = asked
   call_fits (call.PutMmdsConfig mmds) asked own = mmds_given config.interfaces mmds asked.0 asked.1 (only_row _ _ own)
-  call_fits (call.PutMetadata body) asked own = tt
-  call_fits (call.PatchMetadata patch) asked own = tt
-  call_fits call.InstanceStart asked own = tt
-  call_fits (call.PatchVm state) asked own = tt
-  call_fits (call.CreateSnapshot it) asked own = tt
-  call_fits (call.LoadSnapshot load) asked own = tt
-  call_fits (call.Get part) asked own = tt
+  call_fits it asked own = tt
 
-  -- what a call comes to, where it isn't refused
-  pub asked_fits : (request : Request) (c : ApiCall) (it : Change) → call_of request ≡ Ok c → own_refusal p config ids c ≡ None
-      → change_of config c ≡ it → IsFitting config it
-  asked_fits request c it is own same =
-      subst (λ (x : Change). IsFitting config x) same (call_fits c (asked_is request c is) own)
+  -- a call that isn't refused
+  pub asked_fits : (request : Request) (c : ApiCall) → call_of request ≡ Ok c → own_refusal p config ids c ≡ None → IsFitting config c
+  asked_fits request c is own = call_fits c (asked_is request c is) own
 
-  pub decided_fits : (request : Request) (c : ApiCall) (it : Change) → call_of request ≡ Ok c → decision p config ids c ≡ Ok it
-      → IsFitting config it
+  pub decided_fits : (request : Request) (c it : ApiCall) → call_of request ≡ Ok c → decision p config ids c ≡ Ok it → IsFitting config it
   decided_fits request c it is asks =
-      let due : Change = change_of config c in
       let own : Option Refusal = own_refusal p config ids c in
-      let placed = not_refused (misplaced (when_allowed c) p) (unless own (Ok due)) it asks in
-      let known = not_refused own (Ok due) it placed.1 in
-      asked_fits request c it is known.0 (same_change due it known.1)
+      let placed = not_refused (misplaced (when_allowed c) p) (unless own (Ok c)) it asks in
+      let known = not_refused own (Ok c) it placed.1 in
+      subst (λ (x : ApiCall). IsFitting config x) (same_call c it known.1) (asked_fits request c is known.0)
 
-pub allowed_fits : (m : Machine) (it : Change) → IsTaken m.config → IsAllowed m it → IsFitting m.config it
-allowed_fits m it taken known =
-    asked_fits (phase_of m) m.config m.ids taken known.request known.asked it known.call_is known.own known.change_is
+pub allowed_fits : (m : Machine) (it : ApiCall) → IsTaken m.config → IsAllowed m it → IsFitting m.config it
+allowed_fits m it taken known = asked_fits (phase_of m) m.config m.ids taken known.request it known.call_is known.own
 
 -- what is marked as configured
 same_taken : (config : Config) → IsTaken config → IsTaken (record config { configured = true })
@@ -249,63 +236,10 @@ same_taken config taken = record {
   room = taken.room;
 }
 
-pub changed_taken : (config : Config) (it : Change) → IsTaken config → IsFitting config it → IsTaken (changed config it)
-changed_taken config (change.BootSource source) taken fit = record {
-  source = fit;
-  drives = taken.drives;
-  interfaces = taken.interfaces;
-  vsock = taken.vsock;
-  mmds = taken.mmds;
-  machine = taken.machine;
-  balloon = taken.balloon;
-  room = taken.room;
-}
-changed_taken config (change.PutDrive drive) taken fit = record {
-  source = taken.source;
-  drives = fit.0;
-  interfaces = taken.interfaces;
-  vsock = taken.vsock;
-  mmds = taken.mmds;
-  machine = taken.machine;
-  balloon = taken.balloon;
-  room = fit.1;
-}
-changed_taken config (change.PatchDrive patch) taken fit = record {
-  source = taken.source;
-  drives = patch_told patch config.drives taken.drives fit.0 fit.1;
-  interfaces = taken.interfaces;
-  vsock = taken.vsock;
-  mmds = taken.mmds;
-  machine = taken.machine;
-  balloon = taken.balloon;
-  room =
-      let many = length-patched patch config.drives in
-      le-leb (device_count (changed config (change.PatchDrive patch))) 16 (omega (arith, many, leb-true (device_count config) 16 taken.room));
-}
-changed_taken config (change.PutInterface interface) taken fit = record {
-  source = taken.source;
-  drives = taken.drives;
-  interfaces = fit.0;
-  vsock = taken.vsock;
-  mmds = fit.2;
-  machine = taken.machine;
-  balloon = taken.balloon;
-  room = fit.1;
-}
-changed_taken config (change.PatchInterface patch) taken fit = record {
-  source = taken.source;
-  drives = taken.drives;
-  interfaces = limits_patched patch config.interfaces taken.interfaces fit.0 fit.1;
-  vsock = taken.vsock;
-  mmds = mmds_patched patch config.interfaces config.mmds taken.mmds;
-  machine = taken.machine;
-  balloon = taken.balloon;
-  room =
-      let many = many_patched patch config.interfaces in
-      le-leb (device_count (changed config (change.PatchInterface patch))) 16
-      (omega (arith, many, leb-true (device_count config) 16 taken.room));
-}
-changed_taken config (change.MachineConfig machine) taken fit = record {
+-- with another machine
+machine_taken : (config : Config) (machine : MachineConfig) → IsTaken config → IsHeld machine config.balloon
+    → IsTaken (record config { machine = machine; configured = true })
+machine_taken config machine taken fit = record {
   source = taken.source;
   drives = taken.drives;
   interfaces = taken.interfaces;
@@ -315,7 +249,66 @@ changed_taken config (change.MachineConfig machine) taken fit = record {
   balloon = fit.1;
   room = taken.room;
 }
-changed_taken config (change.PutVsock vsock) taken fit = record {
+
+pub changed_taken : (config : Config) (it : ApiCall) → IsTaken config → IsFitting config it → IsTaken (changed config it)
+changed_taken config (call.PutBootSource source) taken fit = record {
+  source = fit;
+  drives = taken.drives;
+  interfaces = taken.interfaces;
+  vsock = taken.vsock;
+  mmds = taken.mmds;
+  machine = taken.machine;
+  balloon = taken.balloon;
+  room = taken.room;
+}
+changed_taken config (call.PutDrive drive) taken fit = record {
+  source = taken.source;
+  drives = fit.0;
+  interfaces = taken.interfaces;
+  vsock = taken.vsock;
+  mmds = taken.mmds;
+  machine = taken.machine;
+  balloon = taken.balloon;
+  room = fit.1;
+}
+changed_taken config (call.PatchDrive patch) taken fit = record {
+  source = taken.source;
+  drives = patch_told patch config.drives taken.drives fit.0 fit.1;
+  interfaces = taken.interfaces;
+  vsock = taken.vsock;
+  mmds = taken.mmds;
+  machine = taken.machine;
+  balloon = taken.balloon;
+  room =
+      let many = length-patched patch config.drives in
+      le-leb (device_count (changed config (call.PatchDrive patch))) 16 (omega (arith, many, leb-true (device_count config) 16 taken.room));
+}
+changed_taken config (call.PutInterface interface) taken fit = record {
+  source = taken.source;
+  drives = taken.drives;
+  interfaces = fit.0;
+  vsock = taken.vsock;
+  mmds = fit.2;
+  machine = taken.machine;
+  balloon = taken.balloon;
+  room = fit.1;
+}
+changed_taken config (call.PatchInterface patch) taken fit = record {
+  source = taken.source;
+  drives = taken.drives;
+  interfaces = limits_patched patch config.interfaces taken.interfaces fit.0 fit.1;
+  vsock = taken.vsock;
+  mmds = mmds_patched patch config.interfaces config.mmds taken.mmds;
+  machine = taken.machine;
+  balloon = taken.balloon;
+  room =
+      let many = many_patched patch config.interfaces in
+      le-leb (device_count (changed config (call.PatchInterface patch))) 16
+      (omega (arith, many, leb-true (device_count config) 16 taken.room));
+}
+changed_taken config (call.PutMachineConfig machine) taken fit = machine_taken config machine taken fit
+changed_taken config (call.PatchMachineConfig patch) taken fit = machine_taken config (with_fields patch config.machine) taken fit
+changed_taken config (call.PutVsock vsock) taken fit = record {
   source = taken.source;
   drives = taken.drives;
   interfaces = taken.interfaces;
@@ -325,7 +318,7 @@ changed_taken config (change.PutVsock vsock) taken fit = record {
   balloon = taken.balloon;
   room = fit.1;
 }
-changed_taken config (change.PutBalloon balloon) taken fit = record {
+changed_taken config (call.PutBalloon balloon) taken fit = record {
   source = taken.source;
   drives = taken.drives;
   interfaces = taken.interfaces;
@@ -335,7 +328,7 @@ changed_taken config (change.PutBalloon balloon) taken fit = record {
   balloon = fit.0;
   room = fit.1;
 }
-changed_taken config (change.PatchBalloon patch) taken fit = record {
+changed_taken config (call.PatchBalloon patch) taken fit = record {
   source = taken.source;
   drives = taken.drives;
   interfaces = taken.interfaces;
@@ -345,7 +338,7 @@ changed_taken config (change.PatchBalloon patch) taken fit = record {
   balloon = amount_patched config.machine.mem_size_mib patch config.balloon fit taken.balloon;
   room = amount_room config.drives config.interfaces config.vsock patch config.balloon ∙ taken.room;
 }
-changed_taken config (change.PatchStatistics patch) taken fit = record {
+changed_taken config (call.PatchStatistics patch) taken fit = record {
   source = taken.source;
   drives = taken.drives;
   interfaces = taken.interfaces;
@@ -355,7 +348,7 @@ changed_taken config (change.PatchStatistics patch) taken fit = record {
   balloon = interval_patched config.machine.mem_size_mib patch config.balloon fit taken.balloon;
   room = interval_room config.drives config.interfaces config.vsock patch config.balloon ∙ taken.room;
 }
-changed_taken config (change.MmdsConfig mmds) taken fit = record {
+changed_taken config (call.PutMmdsConfig mmds) taken fit = record {
   source = taken.source;
   drives = taken.drives;
   interfaces = taken.interfaces;
@@ -365,13 +358,9 @@ changed_taken config (change.MmdsConfig mmds) taken fit = record {
   balloon = taken.balloon;
   room = taken.room;
 }
-changed_taken config (change.PutMetadata body) taken fit = taken
-changed_taken config (change.PatchMetadata patch) taken fit = taken
-changed_taken config change.Start taken fit = same_taken config taken
-changed_taken config (change.State state) taken fit = taken
-changed_taken config (change.CreateSnapshot it) taken fit = taken
-changed_taken config (change.LoadSnapshot load) taken fit = same_taken config taken
-changed_taken config (change.Tell part) taken fit = taken
+changed_taken config call.InstanceStart taken fit = same_taken config taken
+changed_taken config (call.LoadSnapshot load) taken fit = same_taken config taken
+changed_taken config it taken fit = taken
 
 -- ---- with what is booted
 

@@ -33,12 +33,11 @@ use Rattle.api_calls.specs.declared.interface.InterfacePatch.{InterfacePatch}
 use Rattle.api_calls.specs.Form.{holds}
 use Rattle.api_calls.specs.Limits.{is_limiter}
 use Rattle.vm_config.specs.declared.config.Config.{Config}
-use Rattle.vm_config.specs.declared.change.Change.{Change}
-use Rattle.vm_config.specs.declared.change.Change.TheVariants as change
-use Rattle.vm_config.specs.Changes.{changed}
+use Rattle.api_calls.specs.declared.call.ApiCall.{ApiCall}
+use Rattle.api_calls.specs.declared.call.ApiCall.TheVariants as call
 use Rattle.vm_config.specs.Drives.{device_of}
 use Rattle.vm_config.specs.Devices.{balloon_device, interface_device}
-use Rattle.api_rules.specs.Table.{has_started}
+use Rattle.api_rules.specs.Table.{changed, has_started}
 use Rattle.devtree.proofs.Bytes.{tree_small}
 use Rattle.script_text.specs.declared.item.Item.{Item}
 use Rattle.script_text.specs.declared.item.Item.TheVariants as item
@@ -129,7 +128,7 @@ module _ (m : Machine) (image : List ℕ) (ready : Ready m) (widths : HasWidths 
     tree_small m.config (initrd_place m.config.machine.mem_size_mib (disk_of m)) (taken_args m.config ready.taken),
   )
 
-  start_guest : WidthsBy m.saved (changed m.config change.Start)
+  start_guest : WidthsBy m.saved (changed m.config call.InstanceStart)
       (started_from (Some image) (disk_of m) m).guest
   start_guest =
       let within = bounded m.config ready.taken in
@@ -140,9 +139,9 @@ module _ (m : Machine) (image : List ℕ) (ready : Ready m) (widths : HasWidths 
 
 start_widths : (image : Option (List ℕ)) (m : Machine) → Ready m → HasWidths m → image_of m ≡ image
     → start_refusal m.config m.saved ≡ None → (has_started (phase_of m) ≡ true → ⊥)
-    → HasWidths (configured (started_from image (disk_of m) m) change.Start)
+    → HasWidths (configured (started_from image (disk_of m) m) call.InstanceStart)
 start_widths None m ready widths there none new =
-    record { lineage = widths.lineage; guest = early m (changed m.config change.Start) m.guest refl new widths.guest }
+    record { lineage = widths.lineage; guest = early m (changed m.config call.InstanceStart) m.guest refl new widths.guest }
 start_widths (Some image) m ready widths there none new =
     record { lineage = widths.lineage; guest = start_guest m image ready widths there none new }
 
@@ -166,9 +165,9 @@ same_widths saved config other None same is = is
 same_widths saved config other (Some g) same is = rw (same) is
 
 patch_widths : (m : Machine) (patch : DrivePatch) → Ready m → HasWidths m → holds is_limiter patch.rate_limiter ≡ true
-    → HasWidths (configured (patched_drive m patch) (change.PatchDrive patch))
+    → HasWidths (configured (patched_drive m patch) (call.PatchDrive patch))
 patch_widths m patch ready widths fits =
-    let after : Config = changed m.config (change.PatchDrive patch) in
+    let after : Config = changed m.config (call.PatchDrive patch) in
     let number : Option ℕ = device_of m.config.drives patch.drive_id in
     let same = same_widths m.saved m.config after m.guest refl widths.guest in
     record {
@@ -179,9 +178,9 @@ patch_widths m patch ready widths fits =
     }
 
 links_widths : (m : Machine) (patch : InterfacePatch) → Ready m → HasWidths m → holds is_limiter patch.rx_rate_limiter ≡ true
-    → holds is_limiter patch.tx_rate_limiter ≡ true → HasWidths (configured (patched_interface m patch) (change.PatchInterface patch))
+    → holds is_limiter patch.tx_rate_limiter ≡ true → HasWidths (configured (patched_interface m patch) (call.PatchInterface patch))
 links_widths m patch ready widths receives transmits =
-    let after : Config = changed m.config (change.PatchInterface patch) in
+    let after : Config = changed m.config (call.PatchInterface patch) in
     record {
       lineage = widths.lineage;
       guest =
@@ -189,10 +188,10 @@ links_widths m patch ready widths receives transmits =
           (same_widths m.saved m.config after m.guest refl widths.guest);
     }
 
-amount_widths : (m : Machine) (patch : BalloonPatch) → Ready m → HasWidths m → IsTaken (changed m.config (change.PatchBalloon patch))
-    → HasWidths (configured (patched_balloon m patch) (change.PatchBalloon patch))
+amount_widths : (m : Machine) (patch : BalloonPatch) → Ready m → HasWidths m → IsTaken (changed m.config (call.PatchBalloon patch))
+    → HasWidths (configured (patched_balloon m patch) (call.PatchBalloon patch))
 amount_widths m patch ready widths taken =
-    let after : Config = changed m.config (change.PatchBalloon patch) in
+    let after : Config = changed m.config (call.PatchBalloon patch) in
     record {
       lineage = widths.lineage;
       guest =
@@ -201,10 +200,10 @@ amount_widths m patch ready widths taken =
     }
 
 interval_widths : (m : Machine) (patch : StatisticsPatch) → Ready m → HasWidths m
-    → IsTaken (changed m.config (change.PatchStatistics patch))
-    → HasWidths (configured (patched_statistics m patch) (change.PatchStatistics patch))
+    → IsTaken (changed m.config (call.PatchStatistics patch))
+    → HasWidths (configured (patched_statistics m patch) (call.PatchStatistics patch))
 interval_widths m patch ready widths taken =
-    let after : Config = changed m.config (change.PatchStatistics patch) in
+    let after : Config = changed m.config (call.PatchStatistics patch) in
     record {
       lineage = widths.lineage;
       guest =
@@ -212,7 +211,7 @@ interval_widths m patch ready widths taken =
           (same_widths m.saved m.config after m.guest refl widths.guest);
     }
 
--- ---- what a change leaves
+-- ---- what a call leaves
 
 create_widths : (guest : Option Guest) (m : Machine) (it : SnapshotCreate) (kept : List Device) (n : Machine) → Ready m → HasWidths m
     → WidthsBy m.saved m.config guest → Creates guest m it kept n → HasWidths n
@@ -253,65 +252,46 @@ store_widths (Ok kept) m n widths is =
     widths_is (record m { metadata = kept }) n is (record { lineage = widths.lineage; guest = widths.guest })
 store_widths (Err why) m n widths is = widths_is m n is widths
 
-configures : (m : Machine) (it : Change) → HasWidths m → (has_started (phase_of m) ≡ true → ⊥) → HasWidths (configured m it)
+configures : (m : Machine) (it : ApiCall) → HasWidths m → (has_started (phase_of m) ≡ true → ⊥) → HasWidths (configured m it)
 configures m it widths new =
     record { lineage = widths.lineage; guest = early m (changed m.config it) m.guest refl new widths.guest }
 
-leaves_widths : (it : Change) (m n : Machine) → Ready m → HasWidths m → IsAllowed m it → Leaves m it n → HasWidths n
-leaves_widths (change.BootSource source) m n ready widths known is =
-    let it : Change = change.BootSource source in
-    widths_is (configured m it) n is (configures m it widths (λ on. allowed_later m it on known))
-leaves_widths (change.PutDrive drive) m n ready widths known is =
-    let it : Change = change.PutDrive drive in
-    widths_is (configured m it) n is (configures m it widths (λ on. allowed_later m it on known))
-leaves_widths (change.MachineConfig machine) m n ready widths known is =
-    let it : Change = change.MachineConfig machine in
-    widths_is (configured m it) n is (configures m it widths (λ on. allowed_later m it on known))
-leaves_widths (change.PutVsock vsock) m n ready widths known is =
-    let it : Change = change.PutVsock vsock in
-    widths_is (configured m it) n is (configures m it widths (λ on. allowed_later m it on known))
-leaves_widths (change.PutBalloon balloon) m n ready widths known is =
-    let it : Change = change.PutBalloon balloon in
-    widths_is (configured m it) n is (configures m it widths (λ on. allowed_later m it on known))
-leaves_widths (change.PatchDrive patch) m n ready widths known is =
-    let fits = allowed_fits m (change.PatchDrive patch) ready.taken known in
-    widths_is (configured (patched_drive m patch) (change.PatchDrive patch)) n is (patch_widths m patch ready widths fits.1)
-leaves_widths (change.PutInterface interface) m n ready widths known is =
-    let it : Change = change.PutInterface interface in
-    widths_is (configured m it) n is (configures m it widths (λ on. allowed_later m it on known))
-leaves_widths (change.PatchInterface patch) m n ready widths known is =
-    let fits = allowed_fits m (change.PatchInterface patch) ready.taken known in
-    widths_is (configured (patched_interface m patch) (change.PatchInterface patch)) n is (links_widths m patch ready widths fits.0 fits.1)
-leaves_widths (change.PatchBalloon patch) m n ready widths known is =
-    let it : Change = change.PatchBalloon patch in
+leaves_widths : (it : ApiCall) (m n : Machine) → Ready m → HasWidths m → IsAllowed m it → Leaves m it n → HasWidths n
+leaves_widths (call.PatchDrive patch) m n ready widths known is =
+    let fits = allowed_fits m (call.PatchDrive patch) ready.taken known in
+    widths_is (configured (patched_drive m patch) (call.PatchDrive patch)) n is (patch_widths m patch ready widths fits.1)
+leaves_widths (call.PatchInterface patch) m n ready widths known is =
+    let fits = allowed_fits m (call.PatchInterface patch) ready.taken known in
+    widths_is (configured (patched_interface m patch) (call.PatchInterface patch)) n is (links_widths m patch ready widths fits.0 fits.1)
+leaves_widths (call.PatchBalloon patch) m n ready widths known is =
+    let it : ApiCall = call.PatchBalloon patch in
     let taken = changed_taken m.config it ready.taken (allowed_fits m it ready.taken known) in
     widths_is (configured (patched_balloon m patch) it) n is (amount_widths m patch ready widths taken)
-leaves_widths (change.PatchStatistics patch) m n ready widths known is =
-    let it : Change = change.PatchStatistics patch in
+leaves_widths (call.PatchStatistics patch) m n ready widths known is =
+    let it : ApiCall = call.PatchStatistics patch in
     let taken = changed_taken m.config it ready.taken (allowed_fits m it ready.taken known) in
     widths_is (configured (patched_statistics m patch) it) n is (interval_widths m patch ready widths taken)
-leaves_widths (change.MmdsConfig mmds) m n ready widths known is =
-    let it : Change = change.MmdsConfig mmds in
-    widths_is (configured m it) n is (configures m it widths (λ on. allowed_later m it on known))
-leaves_widths change.Start m n ready widths known is =
-    let none = (not_refused (start_refusal m.config m.saved) (Ok change.Start) change.Start known.contents).0 in
-    widths_is (configured (started_from (image_of m) (disk_of m) m) change.Start) n is
-    (start_widths (image_of m) m ready widths refl none (λ on. allowed_later m change.Start on known))
-leaves_widths (change.State Paused) m n ready widths known is =
+leaves_widths call.InstanceStart m n ready widths known is =
+    let none = (not_refused (start_refusal m.config m.saved) (Ok call.InstanceStart) call.InstanceStart known.contents).0 in
+    widths_is (configured (started_from (image_of m) (disk_of m) m) call.InstanceStart) n is
+    (start_widths (image_of m) m ready widths refl none (λ on. allowed_later m call.InstanceStart on known))
+leaves_widths (call.PatchVm Paused) m n ready widths known is =
     widths_is (record m { guest = halted m.paused m.guest; paused = true }) n is
     (record { lineage = widths.lineage; guest = halted_widths m m.paused m.guest ready widths.guest })
-leaves_widths (change.State Resumed) m n ready widths known is =
+leaves_widths (call.PatchVm Resumed) m n ready widths known is =
     widths_is (record m { paused = false }) n is (record { lineage = widths.lineage; guest = widths.guest })
-leaves_widths (change.CreateSnapshot it) m n ready widths known (kept, x) =
+leaves_widths (call.CreateSnapshot it) m n ready widths known (kept, x) =
     create_widths m.guest m it kept n ready widths widths.guest x
-leaves_widths (change.LoadSnapshot load) m n ready widths known x =
-    let held = files_by m m.guest refl (λ on. allowed_later m (change.LoadSnapshot load) on known) widths.guest in
+leaves_widths (call.LoadSnapshot load) m n ready widths known x =
+    let held = files_by m m.guest refl (λ on. allowed_later m (call.LoadSnapshot load) on known) widths.guest in
     load_widths (found m.saved load.files) m load n refl widths held x
-leaves_widths (change.PutMetadata body) m n ready widths known x = store_widths (put body) m n widths x
-leaves_widths (change.PatchMetadata patch) m n ready widths known x = store_widths (patched m.metadata patch) m n widths x
-leaves_widths (change.Tell part) m n ready widths known is = widths_is m n is widths
+leaves_widths (call.PutMetadata body) m n ready widths known x = store_widths (put body) m n widths x
+leaves_widths (call.PatchMetadata patch) m n ready widths known x = store_widths (patched m.metadata patch) m n widths x
+leaves_widths (call.Get part) m n ready widths known is = widths_is m n is widths
+leaves_widths it m n ready widths known is =
+    widths_is (configured m it) n is (configures m it widths (λ on. allowed_later m it on known))
 
-result_widths : (result : Result Change Refusal) (given : Next) (m : Machine) (kept : List Device) (n : Machine) → Ready m → HasWidths m
+result_widths : (result : Result ApiCall Refusal) (given : Next) (m : Machine) (kept : List Device) (n : Machine) → Ready m → HasWidths m
     → allowed m given ≡ result → LeavesBy m result kept n → HasWidths n
 result_widths (Ok it) given m kept n ready widths is x =
     leaves_widths it m n ready widths (allowed_is m given it is) (leaves_of it m kept n x)

@@ -5,14 +5,16 @@ use Rattle.vm_types.specs.declared.ids.ActorId.TheVariants.{Timer}
 use Rattle.api_calls.specs.declared.balloon.Balloon.{Balloon}
 use Rattle.api_calls.specs.declared.call.BootSource.{BootSource}
 use Rattle.api_calls.specs.declared.call.Drive.{Drive}
+use Rattle.api_calls.specs.declared.call.MachineConfig.{MachineConfig}
 use Rattle.api_calls.specs.declared.interface.Interface.{Interface}
 use Rattle.api_calls.specs.declared.mmds.MmdsConfig.{MmdsConfig}
 use Rattle.api_calls.specs.declared.vsock.Vsock.{Vsock}
 use Rattle.api_calls.specs.Form.{holds, is_path}
 use Rattle.api_calls.specs.Limits.{is_limiter}
 use Rattle.vm_config.specs.declared.config.Config.{Config}
-use Rattle.vm_config.specs.declared.change.Change.{Change}
-use Rattle.vm_config.specs.declared.change.Change.TheVariants as change
+use Rattle.api_calls.specs.declared.call.ApiCall.{ApiCall}
+use Rattle.api_calls.specs.declared.call.ApiCall.TheVariants as call
+use Rattle.vm_config.specs.Changes.{with_fields}
 use Rattle.vm_config.specs.Drives.{put_drive}
 use Rattle.vm_config.specs.Interfaces.{put_interface}
 use Rattle.guest_memory.specs.Ram.{page_size}
@@ -57,25 +59,29 @@ abbrev pub AreLinked : List Drive → List Interface → Option Vsock → Option
 AreLinked drives interfaces vsock balloon mmds =
     (are_interfaces interfaces ≡ true) × (has_room drives interfaces vsock balloon ≡ true) × (holds (is_mmds interfaces) mmds ≡ true)
 
--- a change leaves it so
-abbrev pub IsFitting : Config → Change → Type 0
-IsFitting config (change.BootSource source) = is_source (source_of (Some source)) ≡ true
-IsFitting config (change.PutDrive drive) = AreFitting (put_drive config.drives drive) config.interfaces config.vsock config.balloon
-IsFitting config (change.PatchDrive patch) =
+-- there may be such a machine, and it has the memory that the balloon is to take, if there is one
+abbrev pub IsHeld : MachineConfig → Option Balloon → Type 0
+IsHeld machine balloon = (is_machine machine ≡ true) × (holds (is_balloon machine.mem_size_mib) balloon ≡ true)
+
+-- a call leaves it so
+abbrev pub IsFitting : Config → ApiCall → Type 0
+IsFitting config (call.PutBootSource source) = is_source (source_of (Some source)) ≡ true
+IsFitting config (call.PutDrive drive) = AreFitting (put_drive config.drives drive) config.interfaces config.vsock config.balloon
+IsFitting config (call.PatchDrive patch) =
     (holds is_path patch.path_on_host ≡ true) × (holds is_limiter patch.rate_limiter ≡ true)
-IsFitting config (change.PutInterface interface) =
+IsFitting config (call.PutInterface interface) =
     AreLinked config.drives (put_interface config.interfaces interface) config.vsock config.balloon config.mmds
-IsFitting config (change.PatchInterface patch) =
+IsFitting config (call.PatchInterface patch) =
     (holds is_limiter patch.rx_rate_limiter ≡ true) × (holds is_limiter patch.tx_rate_limiter ≡ true)
-IsFitting config (change.MachineConfig machine) =
-    (is_machine machine ≡ true) × (holds (is_balloon machine.mem_size_mib) config.balloon ≡ true)
-IsFitting config (change.PutVsock vsock) =
+IsFitting config (call.PutMachineConfig machine) = IsHeld machine config.balloon
+IsFitting config (call.PatchMachineConfig patch) = IsHeld (with_fields patch config.machine) config.balloon
+IsFitting config (call.PutVsock vsock) =
     (is_vsock vsock ≡ true) × (has_room config.drives config.interfaces (Some vsock) config.balloon ≡ true)
-IsFitting config (change.PutBalloon balloon) =
+IsFitting config (call.PutBalloon balloon) =
     (is_balloon config.machine.mem_size_mib balloon ≡ true) × (has_room config.drives config.interfaces config.vsock (Some balloon) ≡ true)
-IsFitting config (change.PatchBalloon patch) = patch.amount_mib ≤ config.machine.mem_size_mib
-IsFitting config (change.PatchStatistics patch) = patch.stats_polling_interval_s < 2 ^ 16
-IsFitting config (change.MmdsConfig mmds) = is_mmds config.interfaces mmds ≡ true
+IsFitting config (call.PatchBalloon patch) = patch.amount_mib ≤ config.machine.mem_size_mib
+IsFitting config (call.PatchStatistics patch) = patch.stats_polling_interval_s < 2 ^ 16
+IsFitting config (call.PutMmdsConfig mmds) = is_mmds config.interfaces mmds ≡ true
 IsFitting config it = Unit {0}
 
 -- The guest is never stuck, and has what is configured. Where it stands still, its timer is at its start.

@@ -30,9 +30,9 @@ use Rattle.api_calls.specs.declared.limiter.Limiter.{Limiter}
 use Rattle.api_calls.specs.Call.{call_of, ◌>>=◌}
 use Rattle.metadata_store.specs.Store.{patched, put}
 use Rattle.vm_config.specs.declared.config.Config.{Config}
-use Rattle.vm_config.specs.declared.change.Change.{Change}
-use Rattle.vm_config.specs.declared.change.Change.TheVariants as change
-use Rattle.vm_config.specs.Changes.{changed, with_amount, with_interval}
+use Rattle.api_calls.specs.declared.call.ApiCall.{ApiCall}
+use Rattle.api_calls.specs.declared.call.ApiCall.TheVariants as call
+use Rattle.vm_config.specs.Changes.{with_amount, with_interval}
 use Rattle.vm_config.specs.Devices.{Configured, balloon_device, devices_of, interface_device, of_balloon, of_drive, of_interface, of_vsock}
 use Rattle.vm_config.specs.Drives.{device_of}
 use Rattle.vm_config.specs.Texts.{Told}
@@ -41,7 +41,7 @@ use Rattle.api_rules.specs.Answers.{accepted, refused}
 use Rattle.api_rules.specs.Ids.{based, spent}
 use Rattle.api_rules.specs.declared.actions.InitrdFile.{InitrdFile}
 use Rattle.api_rules.specs.declared.actions.InitrdFile.TheVariants as initrd
-use Rattle.api_rules.specs.Table.{boot_refusal, decision, unless}
+use Rattle.api_rules.specs.Table.{boot_refusal, changed, decision, unless}
 use Rattle.guest_memory.specs.Boot.{Loads, initrd_start}
 use Rattle.devtree.specs.declared.machine.InitrdPlace.{InitrdPlace}
 use Rattle.devtree.specs.Machine.{tree_bytes}
@@ -71,10 +71,10 @@ use Rattle.flat_machine.specs.Outcome.{Left, Outcome, nothing_left}
 use Rattle.flat_machine.specs.Outcome.Outcome.{Answered, Failed, NoMemory}
 use Rattle.flat_machine.specs.Machine.{Machine, phase_of}
 
--- ---- which change is allowed
+-- ---- which call is allowed
 
--- what is due asks for this change, or is refused: by its bytes, as a call, and by the machine
-abbrev pub decided : Machine → Next → Result Change Refusal
+-- what is due asks for this call, or is refused: by its bytes, as a call, and by the machine
+abbrev pub decided : Machine → Next → Result ApiCall Refusal
 decided m (next.Request request) = do
   it ← call_of request
   decision (phase_of m) m.config m.ids it
@@ -125,22 +125,22 @@ file_refusal (Some path) saved = if is_some (get saved path) then None else Some
 
 -- a start, a load and another file for a drive are also refused by the files, which they alone ask, and what is put into the
 -- metadata or merged into them by these
-abbrev pub by_contents : Machine → Change → Result Change Refusal
-by_contents m change.Start = unless (start_refusal m.config m.saved) (Ok change.Start)
-by_contents m (change.LoadSnapshot load) = do
+abbrev pub by_contents : Machine → ApiCall → Result ApiCall Refusal
+by_contents m call.InstanceStart = unless (start_refusal m.config m.saved) (Ok call.InstanceStart)
+by_contents m (call.LoadSnapshot load) = do
   _ ← found m.saved load.files
-  Ok (change.LoadSnapshot load)
-by_contents m (change.PatchDrive patch) =
-    unless (file_refusal patch.path_on_host m.saved) (Ok (change.PatchDrive patch))
-by_contents m (change.PutMetadata body) = do
+  Ok (call.LoadSnapshot load)
+by_contents m (call.PatchDrive patch) =
+    unless (file_refusal patch.path_on_host m.saved) (Ok (call.PatchDrive patch))
+by_contents m (call.PutMetadata body) = do
   _ ← put body
-  Ok (change.PutMetadata body)
-by_contents m (change.PatchMetadata patch) = do
+  Ok (call.PutMetadata body)
+by_contents m (call.PatchMetadata patch) = do
   _ ← patched m.metadata patch
-  Ok (change.PatchMetadata patch)
+  Ok (call.PatchMetadata patch)
 by_contents m it = Ok it
 
-abbrev pub allowed : Machine → Next → Result Change Refusal
+abbrev pub allowed : Machine → Next → Result ApiCall Refusal
 allowed m given = do
   it ← decided m given
   by_contents m it
@@ -153,14 +153,14 @@ pub record TellsOf (m : Machine) (told : Told) : Type 0 where
   pub metadata_is : told.metadata ≡ m.metadata
   pub statistics_is : TellsBalloon m.guest (balloon_device m.config) told.statistics
 
-abbrev pub AnswersBy : Machine → Result Change Refusal → Answer → Type 0
+abbrev pub AnswersBy : Machine → Result ApiCall Refusal → Answer → Type 0
 AnswersBy m (Ok it) answer = (told : Told) × TellsOf m told × (answer ≡ accepted it told)
 AnswersBy m (Err why) answer = answer ≡ refused why
 
--- ---- what a change leaves
+-- ---- what a call leaves
 
 -- what was configured after it
-abbrev pub configured : Machine → Change → Machine
+abbrev pub configured : Machine → ApiCall → Machine
 configured m it = record m { config = changed m.config it }
 
 -- where the initial RAM disk stands, if there is one
@@ -339,31 +339,25 @@ abbrev pub Stores : Result Data Refusal → Machine → Machine → Type 0
 Stores (Ok kept) m n = n ≡ record m { metadata = kept }
 Stores (Err why) m n = n ≡ m
 
--- An allowed change leaves n of m.
-abbrev pub Leaves : Machine → Change → Machine → Type 0
-Leaves m (change.BootSource source) n = n ≡ configured m (change.BootSource source)
-Leaves m (change.MachineConfig machine) n = n ≡ configured m (change.MachineConfig machine)
-Leaves m (change.PutDrive drive) n = n ≡ configured m (change.PutDrive drive)
-Leaves m (change.PatchDrive patch) n = n ≡ configured (patched_drive m patch) (change.PatchDrive patch)
-Leaves m (change.PutInterface interface) n = n ≡ configured m (change.PutInterface interface)
-Leaves m (change.PatchInterface patch) n = n ≡ configured (patched_interface m patch) (change.PatchInterface patch)
-Leaves m (change.PutVsock vsock) n = n ≡ configured m (change.PutVsock vsock)
-Leaves m (change.PutBalloon balloon) n = n ≡ configured m (change.PutBalloon balloon)
-Leaves m (change.PatchBalloon patch) n = n ≡ configured (patched_balloon m patch) (change.PatchBalloon patch)
-Leaves m (change.PatchStatistics patch) n = n ≡ configured (patched_statistics m patch) (change.PatchStatistics patch)
-Leaves m (change.MmdsConfig mmds) n = n ≡ configured m (change.MmdsConfig mmds)
-Leaves m (change.PutMetadata body) n = Stores (put body) m n
-Leaves m (change.PatchMetadata patch) n = Stores (patched m.metadata patch) m n
-Leaves m change.Start n = n ≡ configured (started_from (image_of m) (disk_of m) m) change.Start
-Leaves m (change.State Paused) n = n ≡ record m { guest = halted m.paused m.guest; paused = true }
-Leaves m (change.State Resumed) n = n ≡ record m { paused = false }
-Leaves m (change.CreateSnapshot it) n = (kept : List Device) × Creates m.guest m it kept n
-Leaves m (change.LoadSnapshot load) n = Restores (found m.saved load.files) m load n
-Leaves m (change.Tell part) n = n ≡ m
+-- An allowed call leaves n of m: for most of them, what is configured after it.
+abbrev pub Leaves : Machine → ApiCall → Machine → Type 0
+Leaves m (call.PatchDrive patch) n = n ≡ configured (patched_drive m patch) (call.PatchDrive patch)
+Leaves m (call.PatchInterface patch) n = n ≡ configured (patched_interface m patch) (call.PatchInterface patch)
+Leaves m (call.PatchBalloon patch) n = n ≡ configured (patched_balloon m patch) (call.PatchBalloon patch)
+Leaves m (call.PatchStatistics patch) n = n ≡ configured (patched_statistics m patch) (call.PatchStatistics patch)
+Leaves m (call.PutMetadata body) n = Stores (put body) m n
+Leaves m (call.PatchMetadata patch) n = Stores (patched m.metadata patch) m n
+Leaves m call.InstanceStart n = n ≡ configured (started_from (image_of m) (disk_of m) m) call.InstanceStart
+Leaves m (call.PatchVm Paused) n = n ≡ record m { guest = halted m.paused m.guest; paused = true }
+Leaves m (call.PatchVm Resumed) n = n ≡ record m { paused = false }
+Leaves m (call.CreateSnapshot it) n = (kept : List Device) × Creates m.guest m it kept n
+Leaves m (call.LoadSnapshot load) n = Restores (found m.saved load.files) m load n
+Leaves m (call.Get part) n = n ≡ m
+Leaves m it n = n ≡ configured m it
 
 -- A refused call changes nothing. What is kept of the devices is told of a snapshot that is written, and nothing is kept else.
-abbrev pub LeavesBy : Machine → Result Change Refusal → List Device → Machine → Type 0
-LeavesBy m (Ok (change.CreateSnapshot it)) kept n = Creates m.guest m it kept n
+abbrev pub LeavesBy : Machine → Result ApiCall Refusal → List Device → Machine → Type 0
+LeavesBy m (Ok (call.CreateSnapshot it)) kept n = Creates m.guest m it kept n
 LeavesBy m (Ok it) kept n = (kept ≡ []) × Leaves m it n
 LeavesBy m (Err why) kept n = (kept ≡ []) × (n ≡ m)
 
@@ -394,13 +388,13 @@ abbrev pub CreateFails : Option Guest → Machine → SnapshotCreate → Left �
 CreateFails None m it left n = ⊥
 CreateFails (Some g) m it left n = IsCutShort g m it left n
 
--- a start, a load or another file for a drive changes nothing; no other change calls the files
-abbrev pub Fails : Machine → Change → Left → Machine → Type 0
-Fails m (change.PatchDrive patch) left n =
+-- a start, a load or another file for a drive changes nothing; no other call asks the files
+abbrev pub Fails : Machine → ApiCall → Left → Machine → Type 0
+Fails m (call.PatchDrive patch) left n =
     (path : List ℕ) × (patch.path_on_host ≡ Some path) × (left ≡ nothing_left) × (n ≡ m)
-Fails m change.Start left n = (left ≡ nothing_left) × (n ≡ m)
-Fails m (change.LoadSnapshot load) left n = (left ≡ nothing_left) × (n ≡ m)
-Fails m (change.CreateSnapshot it) left n = CreateFails m.guest m it left n
+Fails m call.InstanceStart left n = (left ≡ nothing_left) × (n ≡ m)
+Fails m (call.LoadSnapshot load) left n = (left ≡ nothing_left) × (n ≡ m)
+Fails m (call.CreateSnapshot it) left n = CreateFails m.guest m it left n
 Fails m it left n = ⊥
 
 -- ---- what is due
@@ -423,6 +417,6 @@ abbrev pub RequestStep : Outcome → Next → Machine → List Response → Mach
 RequestStep (Answered kept) given m responses n =
     Responds m given responses × LeavesBy m (allowed m given) kept n
 RequestStep (Failed left) given m responses n =
-    (it : Change) × (decided m given ≡ Ok it) × Fails m it left n
+    (it : ApiCall) × (decided m given ≡ Ok it) × Fails m it left n
     × (responses ≡ respond given (refused refusal.OutsideFailed))
 RequestStep NoMemory given m responses n = (responses ≡ respond given (refused refusal.OutOfMemory)) × (n ≡ m)

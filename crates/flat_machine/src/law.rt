@@ -17,7 +17,7 @@ ghost use Rattle.flat_machine.specs.Stops.{IsStopped};
 ghost use Rattle.api_calls.specs.declared.call.SnapshotCreate.{SnapshotCreate};
 ghost use Rattle.api_calls.specs.declared.call.SnapshotType.TheVariants as snapshot;
 ghost use Rattle.api_calls.specs.declared.call.SnapshotLoad.{SnapshotLoad};
-ghost use Rattle.vm_config.specs.declared.change.Change.TheVariants as change;
+ghost use Rattle.api_calls.specs.declared.call.ApiCall.TheVariants as call;
 ghost use Rattle.guest_memory.specs.Ram.{page_size};
 ghost use Rattle.guest_devices.specs.declared.device.Device.{Device};
 ghost use Rattle.flat_guest.specs.Changes.{reset_guest};
@@ -94,7 +94,7 @@ pub fn create_then_load()
         it.snapshot_type ≡ snapshot.Full → m.guest ≡ Some g → it.files.mem_file_path ≢ it.files.snapshot_path →
         IsCopyOf m.config (reset_guest g) copy → length g.memory.bytes ≡ page_size * copy.pages →
         Creates m.guest m it copy.devices n → load.files ≡ it.files → k.saved ≡ n.saved →
-        Leaves k (change.LoadSnapshot load) p →
+        Leaves k (call.LoadSnapshot load) p →
         p ≡ carried k load (record { identity = next_identity m; copy = copy; bytes = g.memory.bytes }) }
 {}
 

@@ -21,14 +21,17 @@ tail_is : (b t : List ℕ) (taken : ℕ) → t ≡ b → tail t taken ≡ drop t
 tail_is b t taken e =
     take_all (length t - taken) (drop taken t) (rw (length-drop taken t) (omega arith)) ∙ ap (drop taken) e
 
+pub live_at : (c : Connection) (b : List ℕ) (taken : ℕ) (f : Bool) → record { pending = drop taken b; failed = f } ≡ c → f ≡ false
+    → live (drop taken b) ≡ c
+live_at c b taken f view lives = ap (λ (g : Bool). record { pending = drop taken b; failed = g }) (sym lives) ∙ view
+
 pub live_is : (c : Connection) (b t : List ℕ) (taken : ℕ) (f : Bool) → record { pending = drop taken b; failed = f } ≡ c → f ≡ false → t ≡ b
     → live (tail t taken) ≡ c
-live_is c b t taken f view lives e =
-    ap live (tail_is b t taken e) ∙ (ap (λ (g : Bool). record { pending = drop taken b; failed = g }) (sym lives) ∙ view)
+live_is c b t taken f view lives e = ap live (tail_is b t taken e) ∙ live_at c b taken f view lives
 
 -- ---- what is known stays so
 
-told_holds : (s : List ℕ) (spans : List HeaderSpan) (f : Finding) → Tells s spans f → Holds s spans f
+pub told_holds : (s : List ℕ) (spans : List HeaderSpan) (f : Finding) → Tells s spans f → Holds s spans f
 told_holds s spans (TooFew n) told = told.1
 told_holds s spans (Whole p) told = told
 told_holds s spans (Bad why) told = told
@@ -41,11 +44,27 @@ written new old len e =
 pub known_after : (b t : List ℕ) (taken : ℕ) (old lent new : List HeaderSpan) (len : ℕ) (f : Finding) → t ≡ b → taken ≤ length b
     → length old ≡ 2731 → length new ≡ length lent → lent ≡ old → length lent ≡ len → Tells (tail t taken) new f
     → (taken ≤ length b) × (length (take len (new ++ drop (length new) old)) ≡ 2731)
-    × Holds (drop taken b) (take len (new ++ drop (length new) old)) f
+    × Tells (drop taken b) (take len (new ++ drop (length new) old)) f
 known_after b t taken old lent new len f e within room same is long told =
     let w : take len (new ++ drop (length new) old) ≡ new = written new old len (same ∙ long) in
-    let here : Holds (drop taken b) new f = subst (λ (s : List ℕ). Holds s new f) (tail_is b t taken e) (told_holds (tail t taken) new f told) in
-    (within, rw w (same ∙ (ap length is ∙ room)), subst (λ (x : List HeaderSpan). Holds (drop taken b) x f) (sym w) here)
+    let here : Tells (drop taken b) new f = subst (λ (s : List ℕ). Tells s new f) (tail_is b t taken e) told in
+    (within, rw w (same ∙ (ap length is ∙ room)), subst (λ (x : List HeaderSpan). Tells (drop taken b) x f) (sym w) here)
+
+-- the same where all bytes that are held aren't answered
+pub known_now : (b t : List ℕ) (old lent new : List HeaderSpan) (len : ℕ) (f : Finding) → t ≡ b → length old ≡ 2731
+    → length new ≡ length lent → lent ≡ old → length lent ≡ len → Tells t new f
+    → (0 ≤ length b) × (length (take len (new ++ drop (length new) old)) ≡ 2731)
+    × Tells (drop 0 b) (take len (new ++ drop (length new) old)) f
+known_now b t old lent new len f e room same is long told =
+    known_after b t 0 old lent new len f e (omega arith) room same is long
+    (subst (λ (s : List ℕ). Tells s new f) (sym (take_all (length t - 0) t (omega arith))) told)
+
+-- a request that lies in the bytes ends in them
+pub size_fits : (b : List ℕ) (taken : ℕ) (spans : List HeaderSpan) (p : Place) → taken ≤ length b → LiesAt (drop taken b) spans p
+    → taken + (p.head.len + p.body) ≤ length b
+size_fits b taken spans p within lies =
+    let fits : p.head.len + p.body ≤ length (drop taken b) = lies.fits in
+    let left : length (drop taken b) ≡ length b - taken = length-drop taken b in omega (arith, within, fits, left)
 
 -- ---- what a skip leaves
 
@@ -59,13 +78,12 @@ takes_there c s spans p is lies =
     subst (λ (x : Connection). Takes x (next.Request (request_at s spans p)) (live (drop (size p) s))) is
     (takes_whole s spans p (request_at s spans p) lies refl)
 
-pub whole_taken : (c : Connection) (b t : List ℕ) (taken : ℕ) (f : Bool) (spans : List HeaderSpan) (p : Place) (g : Next) (d : Connection)
-    → live (tail t taken) ≡ c → f ≡ false → t ≡ b → LiesAt (tail t taken) spans p → Takes c g d
+pub whole_taken : (c : Connection) (b : List ℕ) (taken : ℕ) (f : Bool) (spans : List HeaderSpan) (p : Place) (g : Next) (d : Connection)
+    → live (drop taken b) ≡ c → f ≡ false → LiesAt (drop taken b) spans p → Takes c g d
     → record { pending = drop (taken + (p.head.len + p.body)) b; failed = f } ≡ d
-whole_taken c b t taken f spans p g d is lives e lies takes =
-    let left : live (drop (size p) (tail t taken)) ≡ d = one_left c _ g _ d (takes_there c (tail t taken) spans p is lies) takes in
-    let here : drop (taken + (p.head.len + p.body)) b ≡ drop (size p) (tail t taken)
-    = sym (drop-drop (size p) taken b) ∙ ap (drop (size p)) (sym (tail_is b t taken e)) in
+whole_taken c b taken f spans p g d is lives lies takes =
+    let left : live (drop (size p) (drop taken b)) ≡ d = one_left c _ g _ d (takes_there c (drop taken b) spans p is lies) takes in
+    let here : drop (taken + (p.head.len + p.body)) b ≡ drop (size p) (drop taken b) = sym (drop-drop (size p) taken b) in
     rw (here, lives) left
 
 pub whole_not_quiet : (c : Connection) (s : List ℕ) (spans : List HeaderSpan) (p : Place) → live s ≡ c → LiesAt s spans p → IsQuiet c → ⊥

@@ -1,12 +1,13 @@
-// What is found at the front of a stream, and a copy of the request that lies there.
-ghost use Rattle.std.specs.Prelude.{◌≡◌, length, map, All, IfOk, IsUtf8, OnErr};
+// What is found at the front of a stream, and the request that lies there.
+ghost use Rattle.std.specs.Prelude.{◌≡◌, length, map, All, IfOk, IsUtf8};
 ghost use Rattle.httparse.specs.Spans.{IsHeaderWithin, header_bytes};
+ghost use Rattle.http_stream.specs.Asked.{next_in, request_in};
 ghost use Rattle.http_stream.specs.Conversation.{IsDue, IsQuiet, Takes};
 ghost use Rattle.http_stream.specs.Stream.{Connection, window};
 ghost use Rattle.http_front.specs.Told.{LiesAt, Tells, live, request_at};
 
 use crate::rules::window;
-use http_stream::{HeaderList, Next, Request};
+use http_stream::{Asked, Given, HeaderList, Next, Request};
 use httparse::spans::{HeaderSpan, RequestSpans};
 use refusals::Refusal;
 use std::alloc::{AllocError, Global};
@@ -30,7 +31,44 @@ pub enum Finding {
     Bad(Refusal),
 }
 
-/// What the stream gives, of which that was found. Only the copy of a request takes memory.
+/// What the stream gives, of which that was found, where it lies.
+pub fn view_next<'b>(stream: &'b [u8], spans: &'b [HeaderSpan], found: Finding) -> Given<'b>
+    requires { Tells stream.now spans.now found }
+    ensures quiet { result ≡ Given.None → IsQuiet (live stream.now) }
+    ensures due { IsDue (next_in result) → (d : Connection) × Takes (live stream.now) (next_in result) d }
+{
+    match found {
+        Finding::TooFew(_) => Given::None,
+        Finding::Bad(why) => Given::Bad(why),
+        Finding::Whole(place) => Given::Request(view_request(stream, spans, place)),
+    }
+}
+
+// The request at that place.
+fn view_request<'b>(stream: &'b [u8], spans: &'b [HeaderSpan], place: Place) -> Asked<'b>
+    requires { LiesAt stream.now spans.now place }
+    ensures { request_in result ≡ request_at stream.now spans.now place }
+{
+    let front = window(stream);
+    let head = place.head;
+    let rest = &stream[head.len..];
+    Asked {
+        method: text_in(head.method.of(front)),
+        path: text_in(head.path.of(front)),
+        front,
+        headers: &spans[..head.headers],
+        body: &rest[..place.body],
+    }
+}
+
+fn text_in(bytes: &[u8]) -> &str
+    requires { IsUtf8 bytes.now }
+    ensures { result.now ≡ bytes.now }
+{
+    str::from_utf8(bytes).unwrap()
+}
+
+/// A copy of what the stream gives, of which that was found. Only the copy of a request takes memory.
 pub fn copy_next(
     alloc: Global,
     stream: &[u8],
@@ -40,7 +78,6 @@ pub fn copy_next(
     requires { Tells stream.now spans.now found }
     ensures quiet { IfOk result (λ next. next ≡ Next.None → IsQuiet (live stream.now)) }
     ensures due { IfOk result (λ next. IsDue next → (d : Connection) × Takes (live stream.now) next d) }
-    ensures short { OnErr result ((request : Request) × (d : Connection) × Takes (live stream.now) (Next.Request request) d) }
 {
     match found {
         Finding::TooFew(_) => Ok(Next::None),
@@ -95,5 +132,5 @@ fn text_of(alloc: Global, bytes: &[u8]) -> Result<TextList, AllocError>
     requires { IsUtf8 bytes.now }
     ensures { IfOk result (λ text. text ≡ bytes.now) }
 {
-    TextList::copy_of(alloc, str::from_utf8(bytes).unwrap())
+    TextList::copy_of(alloc, text_in(bytes))
 }

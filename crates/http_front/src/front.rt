@@ -1,14 +1,14 @@
 // The bytes of a connection, and the requests in them.
 ghost use Rattle.std.specs.Prelude.{◌≡◌, ◌≤◌, ◌++◌, List, ℕ, true, false, drop, length, IfOk, OnOk, OnErr};
 ghost use Rattle.http_front.specs.Told.{Holds};
+ghost use Rattle.http_stream.specs.Asked.{next_in};
 ghost use Rattle.http_stream.specs.Conversation.{IsDue, IsQuiet, Takes, arrived, new_connection};
 ghost use Rattle.http_stream.specs.Stream.{Connection, Judged};
-ghost use Rattle.http_stream.specs.declared.request.Request.{Request};
 
-use crate::found::{Finding, copy_next};
+use crate::found::{Finding, copy_next, view_next};
 use crate::head::make_room;
 use crate::rules::look;
-use http_stream::Next;
+use http_stream::{Given, Next};
 use httparse::spans::HeaderSpan;
 use std::alloc::{AllocError, Global};
 use std::marker::Model;
@@ -20,7 +20,7 @@ pub struct Front {
     bytes: Vec<u8>,
     // How many of the bytes are answered.
     taken: usize,
-    // What is known of those not yet answered.
+    // What those not yet answered give.
     known: Finding,
     failed: bool,
     // The parser's room, and where the headers of a request that was found are.
@@ -30,14 +30,14 @@ pub struct Front {
 impl Model for Front {
     ghost use Rattle.std.specs.Prelude.{◌≡◌, ◌≤◌, drop, length};
     ghost use Rattle.http_stream.specs.Stream.{Connection};
-    ghost use Rattle.http_front.specs.Told.{Holds};
+    ghost use Rattle.http_front.specs.Told.{Tells};
 
     ghost Value = { Connection };
 
     ghost view = { λ f. record { pending = drop f.taken f.bytes.items; failed = f.failed } };
 
     ghost invariant = { λ f. (f.taken ≤ length f.bytes.items) × (length f.spans.items ≡ 2731)
-        × Holds (drop f.taken f.bytes.items) f.spans.items f.known };
+        × Tells (drop f.taken f.bytes.items) f.spans.items f.known };
 }
 
 impl Front {
@@ -83,27 +83,24 @@ impl Front {
         }
         put_behind(self.alloc, &mut self.bytes, self.taken, bytes)?;
         self.taken = 0;
-        self.known = still(self.known);
+        self.known = look(still(self.known), &self.bytes, &mut self.spans);
         Ok(())
     }
 
-    /// A copy of what the connection gives next, which stays on it; `None` where it gives nothing before more bytes
-    /// come, or has failed. Only the copy takes memory: an `Err` says that a request is due.
-    pub fn peek(&mut self) -> Result<Next, AllocError>
-        ensures same { self.new ≡ self.old }
-        ensures quiet { IfOk result (λ next. next ≡ Next.None → IsQuiet self.old) }
-        ensures due { IfOk result (λ next. IsDue next → (d : Connection) × Takes self.old next d) }
-        ensures short { OnErr result ((request : Request) × (d : Connection) × Takes self.old (Next.Request request) d) }
+    /// What the connection gives next, which stays on it; `None` where it gives nothing before more bytes come, or has
+    /// failed. It lies in the connection's bytes, and nothing is copied.
+    pub fn peek(&self) -> Given<'_>
+        ensures quiet { result ≡ Given.None → IsQuiet self.now }
+        ensures due { IsDue (next_in result) → (d : Connection) × Takes self.now (next_in result) d }
     {
         if self.failed {
-            return Ok(Next::None);
+            return Given::None;
         }
-        let stream = &self.bytes[self.taken..];
-        self.known = look(self.known, stream, &mut self.spans);
-        copy_next(self.alloc, stream, &self.spans, self.known)
+        view_next(&self.bytes[self.taken..], &self.spans, self.known)
     }
 
     /// Takes from the connection what it gives next, without a copy. After `Bad` it has failed.
+    #[tactic(auto, using(crate::proofs::TooFew::too_few_none))]
     pub fn skip(&mut self)
         ensures taken { (given : Next) (d : Connection) → Takes self.old given d → self.new ≡ d }
         ensures quiet { IsQuiet self.old → self.new ≡ self.old }
@@ -111,12 +108,12 @@ impl Front {
         if self.failed {
             return;
         }
-        self.known = look(self.known, &self.bytes[self.taken..], &mut self.spans);
         match self.known {
             Finding::TooFew(_) => {}
             Finding::Whole(place) => {
                 self.taken += place.head.len + place.body;
-                self.known = Finding::TooFew(0);
+                let rest = &self.bytes[self.taken..];
+                self.known = look(Finding::TooFew(0), rest, &mut self.spans);
             }
             Finding::Bad(_) => {
                 self.bytes.clear();
@@ -127,7 +124,19 @@ impl Front {
         }
     }
 
-    /// The next request of the stream. After `Bad` the connection has failed, and answers `None` from then on.
+    // A copy of what the connection gives next.
+    fn copied(&self) -> Result<Next, AllocError>
+        ensures quiet { IfOk result (λ next. next ≡ Next.None → IsQuiet self.now) }
+        ensures due { IfOk result (λ next. IsDue next → (d : Connection) × Takes self.now next d) }
+    {
+        if self.failed {
+            return Ok(Next::None);
+        }
+        let stream = &self.bytes[self.taken..];
+        copy_next(self.alloc, stream, &self.spans, self.known)
+    }
+
+    /// The next request of the stream, as a copy. After `Bad` the connection has failed, and answers `None` from then on.
     /// An `Err` changes nothing.
     pub fn next(&mut self) -> Result<Next, AllocError>
         ensures failed { self.old.failed ≡ true
@@ -136,7 +145,7 @@ impl Front {
             → IfOk result (λ next. Judged self.old.pending record { next = next; after = self.new }) }
         ensures err { OnErr result (self.new ≡ self.old) }
     {
-        let next = self.peek()?;
+        let next = self.copied()?;
         self.skip();
         Ok(next)
     }

@@ -5,3 +5,4 @@ pub mod Cuts
 pub mod Reply
 pub mod Sent
 pub mod Stream
+pub mod Asked

@@ -3,7 +3,8 @@
 //! `specs/Stream.antt` says what a stream of bytes gives next, by the first of five rules that fits, and
 //! `specs/Cuts.antt` what a whole stream gives: `any_cutting` proves that it doesn't depend on how the stream was
 //! cut. `specs/Answers.antt` says that every stream has an answer, and only one, which `one_answer` proves.
-//! `specs/Reply.antt` and `specs/Sent.antt` have the bytes of a reply and of a request.
+//! `specs/Asked.antt` says which request lies in some bytes. `specs/Reply.antt` and `specs/Sent.antt` have the bytes of a reply
+//! and of a request.
 #![tactic(auto)]
 
 mod answers;
@@ -14,4 +15,4 @@ mod request;
 pub use answers::one_answer;
 pub use cuts::any_cutting;
 pub use headers::HeaderList;
-pub use request::{Next, Request};
+pub use request::{Asked, Given, Next, Request};

@@ -8,7 +8,7 @@ ghost use Rattle.vm_types.specs.Saved.{Saved};
 ghost use Rattle.vm_types.specs.declared.ids.ActorId.TheVariants.{Timer};
 ghost use Rattle.api_calls.specs.declared.call.SnapshotLoad.{SnapshotLoad};
 ghost use Rattle.api_calls.specs.declared.call.SnapshotType.TheVariants as snapshot;
-ghost use Rattle.vm_config.specs.declared.change.Change.TheVariants as change;
+ghost use Rattle.api_calls.specs.declared.call.ApiCall.TheVariants as call;
 ghost use Rattle.guest_memory.specs.Reserved.{hart_limit};
 ghost use Rattle.snap_diff.specs.Copies.{DiffCopy, JoinAll, MemoryCopy, overlaid_all};
 ghost use Rattle.snapshot_merge.specs.InOrder.{AreDiffFiles, MergeAll};
@@ -58,7 +58,7 @@ pub fn restored_shows_alike()
         memory_text first ≡ Some base → map (λ s. memory_text s) savings ≡ map (λ file. Some file) files →
         MergeAll base files merged →
         get k.saved load.files.mem_file_path ≡ Some merged → get k.saved load.files.snapshot_path ≡ state_text last →
-        Leaves k (change.LoadSnapshot load) p →
+        Leaves k (call.LoadSnapshot load) p →
         IsSound last.guest → last.guest.board.off ≡ false → last.guest.steps Timer ≡ [] →
         length last.guest.memory.reserved ≡ hart_limit * last.copy.pages →
         m.guest ≡ Some (unwritten last.guest) → Shows m own → Shows p other → own ≡ other }

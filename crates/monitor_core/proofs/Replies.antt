@@ -12,17 +12,16 @@ use Rattle.monitor_core.specs.declared.monitor.Monitor.{Monitor}
 use Rattle.monitor_core.specs.Going.{GivesFiling}
 use Rattle.monitor_core.specs.Replying.{Replied}
 
-pub replied : (form : ResponseForm) (monitor : Monitor) (how : Outcome) (looked skipped : Connection) (machine : LiveMachine) (text written : List ℕ)
-    (known left : FilesKnown) (given : Next) (d : Connection) → Takes monitor.front given d → looked ≡ monitor.front
-    → ((given : Next) (d : Connection) → Takes looked given d → skipped ≡ d)
+pub replied : (form : ResponseForm) (monitor : Monitor) (how : Outcome) (skipped : Connection) (machine : LiveMachine) (text written : List ℕ)
+    (known left : FilesKnown) (given : Next) (d : Connection) → Takes monitor.front given d
+    → ((given : Next) (d : Connection) → Takes monitor.front given d → skipped ≡ d)
     → Replies form given how monitor.machine machine text written known left
     → ((GivesFiling monitor.front → ⊥) → left.health.faults ≡ known.health.faults)
     → Replied form monitor (record monitor { front = skipped; machine = machine }) text written known left
-replied form monitor how looked skipped machine text written known left given d takes same taken replies uncalled =
-    let looks : Takes looked given d = subst (λ (f : Connection). Takes f given d) (sym same) takes in record {
-      given = given;
-      takes = subst (λ (f : Connection). Takes monitor.front given f) (sym (taken given d looks)) takes;
-      how = how;
-      replies = replies;
-      uncalled = uncalled;
-    }
+replied form monitor how skipped machine text written known left given d takes taken replies uncalled = record {
+  given = given;
+  takes = subst (λ (f : Connection). Takes monitor.front given f) (sym (taken given d takes)) takes;
+  how = how;
+  replies = replies;
+  uncalled = uncalled;
+}

@@ -1,13 +1,13 @@
--- A live machine that is ready stays so where something else is configured, and where a change that asks no file is done.
-use Rattle.std.proofs.Common.{◌≡◌, Bool, true, refl, sym, ap, subst, ◌∙◌, List, Option, Some, None, Result, Ok, Err}
+-- A live machine that is ready stays so where something else is configured, and where a call that asks no file is done.
+use Rattle.std.proofs.Common.{◌≡◌, Bool, true, refl, sym, ap, subst, ◌∙◌, List, Option, None, Result, Ok, Err}
 use Rattle.std.specs.Prelude.{IsOk, OnErr, OnOk}
 use Rattle.serde_json.specs.Data.{Data}
 use Rattle.api_calls.specs.declared.call.Drive.{Drive}
 use Rattle.api_calls.specs.declared.interface.Interface.{Interface}
 use Rattle.vm_config.specs.declared.config.Config.{Config}
-use Rattle.vm_config.specs.declared.change.Change.{Change}
-use Rattle.vm_config.specs.declared.change.Change.TheVariants as change
-use Rattle.vm_config.specs.Changes.{changed}
+use Rattle.api_calls.specs.declared.call.ApiCall.{ApiCall}
+use Rattle.api_calls.specs.declared.call.ApiCall.TheVariants as call
+use Rattle.api_rules.specs.Table.{changed}
 use Rattle.flat_guest.specs.Guest.{Guest}
 use Rattle.flat_machine.specs.Ready.{AreFitting, AreLinked, IsFitting, IsTaken, ReadyBy}
 use Rattle.flat_machine.proofs.Reconfigured.{amount_patched, drive_patched, interface_patched, interval_patched}
@@ -21,54 +21,23 @@ use Rattle.monitor_machine.specs.State.{IsGuestBy}
 use Rattle.monitor_machine.specs.Telling.{TellsChange}
 use Rattle.monitor_machine.proofs.Lines.{no_guest}
 
--- the same but for a mark of the configuration
-mark_configured : (config : Config) (paused : Bool) (guest : Option Guest) → ReadyBy config paused guest
-    → ReadyBy (record config { configured = true }) paused guest
-mark_configured config paused None is = tt
-mark_configured config paused (Some g) is = record {
-  sound = is.sound;
-  ready = record {
-    configured = record {
-      source = is.ready.configured.source;
-      drives = is.ready.configured.drives;
-      interfaces = is.ready.configured.interfaces;
-      vsock = is.ready.configured.vsock;
-      mmds = is.ready.configured.mmds;
-      machine = is.ready.configured.machine;
-      balloon = is.ready.configured.balloon;
-      room = is.ready.configured.room;
-    };
-    shaped = is.ready.shaped;
-    devices = is.ready.devices;
-  };
-  rests = is.rests;
-}
-
 not_yet : (config : Config) (paused : Bool) (guest : Option Guest) → guest ≡ None → ReadyBy config paused guest
 not_yet config paused guest none = subst (λ (o : Option Guest). ReadyBy config paused o) (sym none) tt
 
-config_guest : (it : Change) (config : Config) (paused : Bool) (w : Option WorldValue) (guest : Option Guest) → IsTaken (changed config it)
+config_guest : (it : ApiCall) (config : Config) (paused : Bool) (w : Option WorldValue) (guest : Option Guest) → IsTaken (changed config it)
     → IsGuestBy w guest → IsEarly it w → ReadyBy config paused guest → ReadyBy (changed config it) paused guest
-config_guest (change.BootSource source) config paused w guest taken here early is = not_yet _ paused guest (no_guest w guest here early)
-config_guest (change.PutDrive drive) config paused w guest taken here early is = not_yet _ paused guest (no_guest w guest here early)
-config_guest (change.MachineConfig machine) config paused w guest taken here early is = not_yet _ paused guest (no_guest w guest here early)
-config_guest (change.PutVsock vsock) config paused w guest taken here early is = not_yet _ paused guest (no_guest w guest here early)
-config_guest (change.PutBalloon balloon) config paused w guest taken here early is = not_yet _ paused guest (no_guest w guest here early)
-config_guest (change.PatchDrive patch) config paused w guest taken here early is = drive_patched config patch paused guest taken is
-config_guest (change.PutInterface interface) config paused w guest taken here early is = not_yet _ paused guest (no_guest w guest here early)
-config_guest (change.PatchInterface patch) config paused w guest taken here early is = interface_patched config patch paused guest taken is
-config_guest (change.PatchBalloon patch) config paused w guest taken here early is = amount_patched config patch paused guest taken is
-config_guest (change.PatchStatistics patch) config paused w guest taken here early is = interval_patched config patch paused guest taken is
-config_guest (change.MmdsConfig mmds) config paused w guest taken here early is = not_yet _ paused guest (no_guest w guest here early)
-config_guest (change.PutMetadata body) config paused w guest taken here early is = is
-config_guest (change.PatchMetadata patch) config paused w guest taken here early is = is
-config_guest change.Start config paused w guest taken here early is = mark_configured config paused guest is
-config_guest (change.State state) config paused w guest taken here early is = is
-config_guest (change.CreateSnapshot files) config paused w guest taken here early is = is
-config_guest (change.LoadSnapshot load) config paused w guest taken here early is = mark_configured config paused guest is
-config_guest (change.Tell part) config paused w guest taken here early is = is
+config_guest (call.PatchDrive patch) config paused w guest taken here early is = drive_patched config patch paused guest taken is
+config_guest (call.PatchInterface patch) config paused w guest taken here early is = interface_patched config patch paused guest taken is
+config_guest (call.PatchBalloon patch) config paused w guest taken here early is = amount_patched config patch paused guest taken is
+config_guest (call.PatchStatistics patch) config paused w guest taken here early is = interval_patched config patch paused guest taken is
+config_guest (call.PutMetadata body) config paused w guest taken here early is = is
+config_guest (call.PatchMetadata patch) config paused w guest taken here early is = is
+config_guest (call.PatchVm state) config paused w guest taken here early is = is
+config_guest (call.CreateSnapshot files) config paused w guest taken here early is = is
+config_guest (call.Get part) config paused w guest taken here early is = is
+config_guest it config paused w guest taken here early is = not_yet (changed config it) paused guest (no_guest w guest here early)
 
-pub change_stays : (live : Live) (it : Change) → IsFitting live.config it → IsEarly it live.guest → IsReadyLive live
+pub change_stays : (live : Live) (it : ApiCall) → IsFitting live.config it → IsEarly it live.guest → IsReadyLive live
     → IsReadyLive (record live { config = changed live.config it })
 change_stays live it fits early (m, own, ready) =
     let taken = changed_taken m.config it ready.taken (subst (λ (c : Config). IsFitting c it) own.config_is fits) in (
@@ -90,7 +59,7 @@ change_stays live it fits early (m, own, ready) =
     )
 
 -- what was asked of it, or nothing for want of memory
-pub applied_stays : {E : Type 0} (live : Live) (it : Change) (done : Result (Unit {0}) E) (config : Config)
+pub applied_stays : {E : Type 0} (live : Live) (it : ApiCall) (done : Result (Unit {0}) E) (config : Config)
     → OnOk done (config ≡ changed live.config it) → OnErr done (config ≡ live.config) → IsFitting live.config it → IsEarly it live.guest
     → IsReadyLive live → IsReadyLive (record live { config = config })
 applied_stays live it (Ok v) config ok err fits early ready =
@@ -103,56 +72,27 @@ applied_is (Ok v) P good is = is
 applied_is (Err why) P good is = absurd cc
 
 -- who stands still or goes on has started, and who hasn't stays so
-pub stays_early : (it : Change) (paused : Bool) (w : Option WorldValue) → IsEarly it w → IsEarly it (world_by it paused w)
-stays_early (change.BootSource source) paused w early = early
-stays_early (change.PutDrive drive) paused w early = early
-stays_early (change.MachineConfig machine) paused w early = early
-stays_early (change.PutVsock vsock) paused w early = early
-stays_early (change.PutBalloon balloon) paused w early = early
-stays_early (change.PatchDrive patch) paused w early = tt
-stays_early (change.PutInterface interface) paused w early = early
-stays_early (change.PatchInterface patch) paused w early = tt
-stays_early (change.PatchBalloon patch) paused w early = tt
-stays_early (change.PatchStatistics patch) paused w early = tt
-stays_early (change.MmdsConfig mmds) paused w early = early
-stays_early (change.PutMetadata body) paused w early = tt
-stays_early (change.PatchMetadata patch) paused w early = tt
-stays_early change.Start paused w early = tt
-stays_early (change.State state) paused w early = tt
-stays_early (change.CreateSnapshot files) paused w early = tt
-stays_early (change.LoadSnapshot load) paused w early = tt
-stays_early (change.Tell part) paused w early = tt
+pub stays_early : (it : ApiCall) (paused : Bool) (w : Option WorldValue) → IsEarly it w → IsEarly it (world_by it paused w)
+stays_early (call.PatchVm state) paused w early = tt
+stays_early it paused w early = early
 
 -- nor is a guest told of what is said before a start
-pub told_early : (it : Change) (config : Config) (w v : Option WorldValue) → TellsChange it config w v → IsEarly it w → IsEarly it v
-told_early (change.BootSource source) config w v tells early = tells ∙ early
-told_early (change.PutDrive drive) config w v tells early = tells ∙ early
-told_early (change.MachineConfig machine) config w v tells early = tells ∙ early
-told_early (change.PutVsock vsock) config w v tells early = tells ∙ early
-told_early (change.PutBalloon balloon) config w v tells early = tells ∙ early
-told_early (change.PatchDrive patch) config w v tells early = tt
-told_early (change.PutInterface interface) config w v tells early = tells ∙ early
-told_early (change.PatchInterface patch) config w v tells early = tt
-told_early (change.PatchBalloon patch) config w v tells early = tt
-told_early (change.PatchStatistics patch) config w v tells early = tt
-told_early (change.MmdsConfig mmds) config w v tells early = tells ∙ early
-told_early (change.PutMetadata body) config w v tells early = tt
-told_early (change.PatchMetadata patch) config w v tells early = tt
-told_early change.Start config w v tells early = tt
-told_early (change.State state) config w v tells early = tt
-told_early (change.CreateSnapshot files) config w v tells early = tt
-told_early (change.LoadSnapshot load) config w v tells early = tt
-told_early (change.Tell part) config w v tells early = tt
+pub told_early : (it : ApiCall) (config : Config) (w v : Option WorldValue) → TellsChange it config w v → IsEarly it w → IsEarly it v
+told_early (call.PatchDrive patch) config w v tells early = tt
+told_early (call.PatchInterface patch) config w v tells early = tt
+told_early (call.PatchBalloon patch) config w v tells early = tt
+told_early (call.PatchStatistics patch) config w v tells early = tt
+told_early it config w v tells early = subst (λ (o : Option WorldValue). IsEarly it o) (sym tells) early
 
 -- who was told stands as who stood
-pub stood_told : (live stood told : Live) (it : Change) → stood ≡ record live {
+pub stood_told : (live stood told : Live) (it : ApiCall) → stood ≡ record live {
   guest = world_by it live.paused live.guest;
   paused = paused_by it live.paused;
 } → told ≡ record stood { guest = told.guest } → told ≡ record live { guest = told.guest; paused = paused_by it live.paused }
 stood_told live stood told it stands tells = tells ∙ ap (λ (l : Live). record l { guest = told.guest }) stands
 
--- what becomes of the machine by a change that asks no file
-pub takes_change : (live stood told : Live) (it : Change) (config : Config) → stood ≡ record live {
+-- what becomes of the machine by a call that asks no file
+pub takes_change : (live stood told : Live) (it : ApiCall) (config : Config) → stood ≡ record live {
   guest = world_by it live.paused live.guest;
   paused = paused_by it live.paused;
 } → TellsChange it stood.config stood.guest told.guest → told ≡ record stood { guest = told.guest } → config ≡ changed told.config it

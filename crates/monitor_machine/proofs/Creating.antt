@@ -18,8 +18,8 @@ use Rattle.http_stream.specs.declared.request.Next.TheVariants as next
 use Rattle.http_stream.specs.declared.request.Request.{Request}
 use Rattle.api_calls.specs.Call.{◌>>=◌}
 use Rattle.vm_config.specs.declared.config.Config.{Config}
-use Rattle.vm_config.specs.declared.change.Change.{Change}
-use Rattle.vm_config.specs.declared.change.Change.TheVariants as change
+use Rattle.api_calls.specs.declared.call.ApiCall.{ApiCall}
+use Rattle.api_calls.specs.declared.call.ApiCall.TheVariants as call
 use Rattle.api_rules.specs.declared.ids.Ids.{Ids}
 use Rattle.api_rules.specs.Answers.{no_content, refused}
 use Rattle.api_rules.specs.Ids.{based, spent}
@@ -73,7 +73,7 @@ pub create_task : (made : Task) (live : LiveMachine) (w : WorldValue) (it : Snap
     → live.guest ≡ Some w → parent ≡ parent_of it.snapshot_type live.ids.base
     → identity ≡ record { lineage = live.ids.lineage; number = live.ids.next } → CreateGives made live.config parent identity w it.files
     → (kept : List Device) × ((known : FilesKnown) (m : Machine) → IsMachine live known m → (given : Next)
-    → decided m given ≡ Ok (change.CreateSnapshot it) → IsTask made m given kept)
+    → decided m given ≡ Ok (call.CreateSnapshot it) → IsTask made m given kept)
 create_task (task.Plan plan.NoMemory) live w it parent identity there since own gives = ([], λ known m is given asks. tt)
 create_task (task.Plan (plan.Refused why)) live w it parent identity there since own gives = absurd gives
 create_task (task.Plan (plan.Changes c)) live w it parent identity there since own gives = absurd gives
@@ -212,8 +212,8 @@ module _ (c : Creation) (live : LiveMachine) (w : WorldValue) (known left : File
       → writes.Creates c.names.mem_file_path c.head (written_of c w) c.names.snapshot_path c.body known left
       → RequestStep (flat.Outcome.Answered kept) given m (respond given no_content) end × IsMachine after left end
   create_does after leaves tells wrote = (
-    answered live known m end given (Ok (change.CreateSnapshot due.it)) no_content kept
-        (ap (λ (r : Result Change Refusal). r >>= by_contents m) due.asks) (told_of live, tells_is live m tells is.own, refl)
+    answered live known m end given (Ok (call.CreateSnapshot due.it)) no_content kept
+        (ap (λ (r : Result ApiCall Refusal). r >>= by_contents m) due.asks) (told_of live, tells_is live m tells is.own, refl)
         (subst (λ (o : Option Guest). Creates o m due.it kept end) (sym due.there) (due.copy, due.copied, due.kept_is, due.saved, refl)),
     subst (λ (l : LiveMachine). IsMachine l left end) (sym leaves.1)
         (record {
@@ -250,7 +250,7 @@ module _ (c : Creation) (live : LiveMachine) (w : WorldValue) (known left : File
       × IsMachine (failed_after c live) left stopped
   create_fails part = (
     (
-      change.CreateSnapshot due.it,
+      call.CreateSnapshot due.it,
       due.asks,
       subst (λ (o : Option Guest). CreateFails o m due.it (left_by c.names kept known left) stopped) (sym due.there)
           (record {

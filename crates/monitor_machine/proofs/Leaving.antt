@@ -10,9 +10,9 @@ use Rattle.vm_outside.specs.Known.{FilesKnown}
 use Rattle.api_calls.specs.declared.call.VmState.TheVariants.{Paused, Resumed}
 use Rattle.metadata_store.specs.Store.{put}
 use Rattle.vm_config.specs.declared.config.Config.{Config}
-use Rattle.vm_config.specs.declared.change.Change.{Change}
-use Rattle.vm_config.specs.declared.change.Change.TheVariants as change
-use Rattle.vm_config.specs.Changes.{changed, takes_memory}
+use Rattle.api_calls.specs.declared.call.ApiCall.{ApiCall}
+use Rattle.api_calls.specs.declared.call.ApiCall.TheVariants as call
+use Rattle.api_rules.specs.Table.{changed, reads_files, takes_memory}
 use Rattle.vm_config.specs.Drives.{device_of}
 use Rattle.vm_config.specs.Texts.{Told}
 use Rattle.api_rules.specs.declared.answer.Answer.{Answer}
@@ -32,7 +32,7 @@ use Rattle.monitor_plans.specs.declared.drive_changes.Resize.{Resize}
 use Rattle.monitor_plans.specs.declared.plan.Plan.{Plan}
 use Rattle.monitor_plans.specs.declared.plan.Plan.TheVariants as plan
 use Rattle.monitor_machine.specs.declared.machine.LiveMachine.{LiveMachine}
-use Rattle.monitor_machine.specs.Plans.{IsAnotherFile, IsKept, IsPlan, PlanLeaves, TakesChange, TakesFile, answer_of, halted_world, is_plain, paused_by, plan_outcome, reads_files, told_of, world_by}
+use Rattle.monitor_machine.specs.Plans.{IsAnotherFile, IsKept, IsPlan, PlanLeaves, TakesChange, TakesFile, answer_of, halted_world, is_plain, paused_by, plan_outcome, told_of, world_by}
 use Rattle.monitor_machine.specs.declared.outcome.Outcome.{Outcome}
 use Rattle.monitor_machine.specs.declared.outcome.Outcome.TheVariants.{Answered, Failed, NoMemory}
 use Rattle.monitor_machine.specs.Replying.{WentAs}
@@ -67,21 +67,21 @@ Does it m given answer after known =
     (n : Machine) × RequestStep (outcome_of (plan_outcome it)) given m (respond given answer) n
     × IsMachine after known n
 
--- an answer of the machine, whose change leaves n
-pub answered : (live : LiveMachine) (known : FilesKnown) (m n : Machine) (given : Next) (made : Result Change Refusal) (answer : Answer)
+-- an answer of the machine, which leaves n
+pub answered : (live : LiveMachine) (known : FilesKnown) (m n : Machine) (given : Next) (made : Result ApiCall Refusal) (answer : Answer)
     (kept : List Device) → allowed m given ≡ made → AnswersBy m made answer → LeavesBy m made kept n
     → RequestStep (flat.Outcome.Answered kept) given m (respond given answer) n
 answered live known m n given made answer kept asks is leaves = (
-  (answer, subst (λ (r : Result Change Refusal). AnswersBy m r answer) (sym asks) is, refl),
-  subst (λ (r : Result Change Refusal). LeavesBy m r kept n) (sym asks) leaves,
+  (answer, subst (λ (r : Result ApiCall Refusal). AnswersBy m r answer) (sym asks) is, refl),
+  subst (λ (r : Result ApiCall Refusal). LeavesBy m r kept n) (sym asks) leaves,
 )
 
--- what a change other than a start leaves
-abbrev pub guest_by : Change → Bool → Option Guest → Option Guest
-guest_by (change.State Paused) paused guest = halted paused guest
+-- what a call other than a start leaves
+abbrev pub guest_by : ApiCall → Bool → Option Guest → Option Guest
+guest_by (call.PatchVm Paused) paused guest = halted paused guest
 guest_by it paused guest = guest
 
-abbrev plainly : Machine → Change → Machine
+abbrev plainly : Machine → ApiCall → Machine
 plainly m it = record m {
   config = changed m.config it;
   guest = told_guest it m.config (guest_by it m.paused m.guest);
@@ -96,27 +96,11 @@ halted_is false (Some w) (Some g) is = restarted w g is
 halted_is false (Some w) None is = absurd is
 halted_is false None (Some g) is = absurd is
 
-pub left_is : (it : Change) (paused : Bool) (w : Option WorldValue) (g : Option Guest) → IsGuestBy w g
+pub left_is : (it : ApiCall) (paused : Bool) (w : Option WorldValue) (g : Option Guest) → IsGuestBy w g
     → IsGuestBy (world_by it paused w) (guest_by it paused g)
-left_is (change.State Paused) paused w g is = halted_is paused w g is
-left_is (change.State Resumed) paused w g is = is
-left_is (change.BootSource source) paused w g is = is
-left_is (change.PutDrive drive) paused w g is = is
-left_is (change.PatchDrive patch) paused w g is = is
-left_is (change.PutInterface interface) paused w g is = is
-left_is (change.PatchInterface patch) paused w g is = is
-left_is (change.MachineConfig machine) paused w g is = is
-left_is (change.PutVsock vsock) paused w g is = is
-left_is (change.PutBalloon balloon) paused w g is = is
-left_is (change.PatchBalloon patch) paused w g is = is
-left_is (change.PatchStatistics patch) paused w g is = is
-left_is (change.MmdsConfig mmds) paused w g is = is
-left_is (change.PutMetadata body) paused w g is = is
-left_is (change.PatchMetadata patch) paused w g is = is
-left_is change.Start paused w g is = is
-left_is (change.CreateSnapshot files) paused w g is = is
-left_is (change.LoadSnapshot load) paused w g is = is
-left_is (change.Tell part) paused w g is = is
+left_is (call.PatchVm Paused) paused w g is = halted_is paused w g is
+left_is (call.PatchVm Resumed) paused w g is = is
+left_is it paused w g is = is
 
 -- a drive whose file stays tells its device no size
 not_resized : (path : Option (List ℕ)) (number : Option ℕ) (saved : Saved) (g : Option Guest) → is_none path ≡ true
@@ -124,58 +108,35 @@ not_resized : (path : Option (List ℕ)) (number : Option ℕ) (saved : Saved) (
 not_resized None number saved g none = refl
 not_resized (Some path) number saved g none = cc
 
-plain_leaves : (m : Machine) (it : Change) → is_plain it ≡ true → LeavesBy m (Ok it) [] (plainly m it)
-plain_leaves m (change.BootSource source) plain = (refl, refl)
-plain_leaves m (change.PutDrive drive) plain = cc
-plain_leaves m (change.PatchDrive patch) plain =
+plain_leaves : (m : Machine) (it : ApiCall) → is_plain it ≡ true → LeavesBy m (Ok it) [] (plainly m it)
+plain_leaves m (call.PutDrive drive) plain = cc
+plain_leaves m (call.PatchDrive patch) plain =
     let number : Option ℕ = device_of m.config.drives patch.drive_id in
     let same = not_resized patch.path_on_host number m.saved m.guest plain in (
       refl,
       λ i. record m {
-        config = changed m.config (change.PatchDrive patch);
+        config = changed m.config (call.PatchDrive patch);
         guest = relimited limits_told patch.rate_limiter number (sym same i);
       },
     )
-plain_leaves m (change.PutInterface interface) plain = cc
-plain_leaves m (change.PatchInterface patch) plain = (refl, refl)
-plain_leaves m (change.MachineConfig machine) plain = (refl, refl)
-plain_leaves m (change.PutVsock vsock) plain = (refl, refl)
-plain_leaves m (change.PutBalloon balloon) plain = (refl, refl)
-plain_leaves m (change.PatchBalloon patch) plain = (refl, refl)
-plain_leaves m (change.PatchStatistics patch) plain = (refl, refl)
-plain_leaves m (change.MmdsConfig mmds) plain = (refl, refl)
-plain_leaves m (change.PutMetadata body) plain = cc
-plain_leaves m (change.PatchMetadata patch) plain = cc
-plain_leaves m change.Start plain = cc
-plain_leaves m (change.State Paused) plain = (refl, refl)
-plain_leaves m (change.State Resumed) plain = (refl, refl)
-plain_leaves m (change.CreateSnapshot files) plain = cc
-plain_leaves m (change.LoadSnapshot load) plain = cc
-plain_leaves m (change.Tell part) plain = (refl, refl)
+plain_leaves m (call.PutInterface interface) plain = cc
+plain_leaves m (call.PutMetadata body) plain = cc
+plain_leaves m (call.PatchMetadata patch) plain = cc
+plain_leaves m call.InstanceStart plain = cc
+plain_leaves m (call.PatchVm Paused) plain = (refl, refl)
+plain_leaves m (call.PatchVm Resumed) plain = (refl, refl)
+plain_leaves m (call.CreateSnapshot files) plain = cc
+plain_leaves m (call.LoadSnapshot load) plain = cc
+plain_leaves m it plain = (refl, refl)
 
 -- and takes no memory
-plain_free : (it : Change) → is_plain it ≡ true → takes_memory it ≡ false
-plain_free (change.BootSource source) plain = refl
-plain_free (change.PutDrive drive) plain = cc
-plain_free (change.PatchDrive patch) plain = refl
-plain_free (change.PutInterface interface) plain = cc
-plain_free (change.PatchInterface patch) plain = refl
-plain_free (change.MachineConfig machine) plain = refl
-plain_free (change.PutVsock vsock) plain = refl
-plain_free (change.PutBalloon balloon) plain = refl
-plain_free (change.PatchBalloon patch) plain = refl
-plain_free (change.PatchStatistics patch) plain = refl
-plain_free (change.MmdsConfig mmds) plain = refl
-plain_free (change.PutMetadata body) plain = refl
-plain_free (change.PatchMetadata patch) plain = refl
-plain_free change.Start plain = refl
-plain_free (change.State state) plain = refl
-plain_free (change.CreateSnapshot files) plain = refl
-plain_free (change.LoadSnapshot load) plain = refl
-plain_free (change.Tell part) plain = refl
+plain_free : (it : ApiCall) → is_plain it ≡ true → takes_memory it ≡ false
+plain_free (call.PutDrive drive) plain = cc
+plain_free (call.PutInterface interface) plain = cc
+plain_free it plain = refl
 
--- what a change leaves of the world is what it leaves of the guest
-changes_at : (it : Change) (live after : LiveMachine) (m : Machine) → IsLive live m → TakesChange it live after
+-- what a call leaves of the world is what it leaves of the guest
+changes_at : (it : ApiCall) (live after : LiveMachine) (m : Machine) → IsLive live m → TakesChange it live after
     → IsGuestBy after.guest (plainly m it).guest
 changes_at it live after m own takes =
     change_at it m.config (world_by it live.paused live.guest) after.guest (guest_by it m.paused m.guest)
@@ -203,55 +164,26 @@ refiles_at r live after m given own asks leaves =
     (subst (λ (o : Option ℕ). Relimits limits_told r.patch.rate_limiter o leaves.mid after.guest) asks.device_is leaves.limits)
 
 -- what is stored leaves the machine with it
-keeps : (it : Change) (m : Machine) (told : Told) (kept : Data) → IsKept kept m it
+keeps : (it : ApiCall) (m : Machine) (told : Told) (kept : Data) → IsKept kept m it
     → LeavesBy m (Ok it) [] (record m { metadata = kept }) × (accepted it told ≡ no_content)
-keeps (change.PutMetadata body) m told kept is =
+keeps (call.PutMetadata body) m told kept is =
     ((refl, subst (λ (due : Result Data Refusal). Stores due m (record m { metadata = kept })) (sym is) refl), refl)
-keeps (change.PatchMetadata patch) m told kept is =
+keeps (call.PatchMetadata patch) m told kept is =
     ((refl, subst (λ (due : Result Data Refusal). Stores due m (record m { metadata = kept })) (sym is) refl), refl)
-keeps (change.BootSource source) m told kept is = absurd is
-keeps (change.PutDrive drive) m told kept is = absurd is
-keeps (change.PatchDrive patch) m told kept is = absurd is
-keeps (change.PutInterface interface) m told kept is = absurd is
-keeps (change.PatchInterface patch) m told kept is = absurd is
-keeps (change.MachineConfig machine) m told kept is = absurd is
-keeps (change.PutVsock vsock) m told kept is = absurd is
-keeps (change.PutBalloon balloon) m told kept is = absurd is
-keeps (change.MmdsConfig mmds) m told kept is = absurd is
-keeps (change.PatchBalloon patch) m told kept is = absurd is
-keeps (change.PatchStatistics patch) m told kept is = absurd is
-keeps change.Start m told kept is = absurd is
-keeps (change.State state) m told kept is = absurd is
-keeps (change.CreateSnapshot files) m told kept is = absurd is
-keeps (change.LoadSnapshot load) m told kept is = absurd is
-keeps (change.Tell part) m told kept is = absurd is
+keeps it m told kept is = absurd is
 
 -- a start, a load or another file for a drive leaves the files as they were
 given_path : (path : Option (List ℕ)) → is_some path ≡ true → (name : List ℕ) × (path ≡ Some name)
 given_path None given = cc
 given_path (Some name) given = (name, refl)
 
-fails_alone : (it : Change) (m : Machine) → reads_files it ≡ true → Fails m it flat.nothing_left m
-fails_alone (change.BootSource source) m reads = cc
-fails_alone (change.PutDrive drive) m reads = cc
-fails_alone (change.PatchDrive patch) m reads =
+fails_alone : (it : ApiCall) (m : Machine) → reads_files it ≡ true → Fails m it flat.nothing_left m
+fails_alone (call.PatchDrive patch) m reads =
     let named = given_path patch.path_on_host reads in
     (named.0, named.1, refl, refl)
-fails_alone (change.PutInterface interface) m reads = cc
-fails_alone (change.PatchInterface patch) m reads = cc
-fails_alone (change.MachineConfig machine) m reads = cc
-fails_alone (change.PutVsock vsock) m reads = cc
-fails_alone (change.PutBalloon balloon) m reads = cc
-fails_alone (change.PatchBalloon patch) m reads = cc
-fails_alone (change.PatchStatistics patch) m reads = cc
-fails_alone (change.MmdsConfig mmds) m reads = cc
-fails_alone (change.PutMetadata body) m reads = cc
-fails_alone (change.PatchMetadata patch) m reads = cc
-fails_alone change.Start m reads = (refl, refl)
-fails_alone (change.State state) m reads = cc
-fails_alone (change.CreateSnapshot names) m reads = cc
-fails_alone (change.LoadSnapshot load) m reads = (refl, refl)
-fails_alone (change.Tell part) m reads = cc
+fails_alone call.InstanceStart m reads = (refl, refl)
+fails_alone (call.LoadSnapshot load) m reads = (refl, refl)
+fails_alone it m reads = cc
 
 -- what comes of a plan that leaves this
 pub plan_does : (it : Plan) (live after : LiveMachine) (known : FilesKnown) (m : Machine) (given : Next) → IsMachine live known m
@@ -278,9 +210,9 @@ plan_does (plan.Changes it) live after known m given is tells (asks, plain) leav
       }),
     )
 plan_does (plan.Drives drives) live after known m given is tells (drive, asks, put) leaves =
-    let n : Machine = configured m (change.PutDrive drive) in (
+    let n : Machine = configured m (call.PutDrive drive) in (
       n,
-      answered live known m n given (Ok (change.PutDrive drive)) _ [] asks (told_of live, tells_is live m tells is.own, refl) (refl, refl),
+      answered live known m n given (Ok (call.PutDrive drive)) _ [] asks (told_of live, tells_is live m tells is.own, refl) (refl, refl),
       subst (λ (l : LiveMachine). IsMachine l known n) (sym leaves) (record {
         own = record {
           id_is = is.own.id_is;
@@ -294,9 +226,9 @@ plan_does (plan.Drives drives) live after known m given is tells (drive, asks, p
       }),
     )
 plan_does (plan.Interfaces interfaces) live after known m given is tells (interface, asks, put) leaves =
-    let n : Machine = configured m (change.PutInterface interface) in (
+    let n : Machine = configured m (call.PutInterface interface) in (
       n,
-      answered live known m n given (Ok (change.PutInterface interface)) _ [] asks (told_of live, tells_is live m tells is.own, refl) (refl, refl),
+      answered live known m n given (Ok (call.PutInterface interface)) _ [] asks (told_of live, tells_is live m tells is.own, refl) (refl, refl),
       subst (λ (l : LiveMachine). IsMachine l known n) (sym leaves) (record {
         own = record {
           id_is = is.own.id_is;
@@ -310,7 +242,7 @@ plan_does (plan.Interfaces interfaces) live after known m given is tells (interf
       }),
     )
 plan_does (plan.Resizes r) live after known m given is tells asks leaves =
-    let it : Change = change.PatchDrive r.patch in
+    let it : ApiCall = call.PatchDrive r.patch in
     let n : Machine = configured (patched_drive m r.patch) it in (
       n,
       answered live known m n given (Ok it) _ [] asks.asks (told_of live, tells_is live m tells is.own, refl) (refl, refl),
@@ -343,15 +275,15 @@ plan_does (plan.Stores kept) live after known m given is tells (it, asks, stores
       }),
     )
 plan_does (plan.Starts w) live after known m given is tells (asks, image, there, world) leaves =
-    let n : Machine = configured (started_from (Some image) (disk_of m) m) change.Start in (
+    let n : Machine = configured (started_from (Some image) (disk_of m) m) call.InstanceStart in (
       n,
-      answered live known m n given (Ok change.Start) _ [] asks (told_of live, tells_is live m tells is.own, refl)
-          (refl, ap (λ (o : Option (List ℕ)). configured (started_from o (disk_of m) m) change.Start) (sym there)),
+      answered live known m n given (Ok call.InstanceStart) _ [] asks (told_of live, tells_is live m tells is.own, refl)
+          (refl, ap (λ (o : Option (List ℕ)). configured (started_from o (disk_of m) m) call.InstanceStart) (sym there)),
       subst (λ (l : LiveMachine). IsMachine l known n) (sym leaves) (record {
         own = record {
           id_is = is.own.id_is;
           ids_is = is.own.ids_is;
-          config_is = ap (λ (k : Config). changed k change.Start) is.own.config_is;
+          config_is = ap (λ (k : Config). changed k call.InstanceStart) is.own.config_is;
           metadata_is = is.own.metadata_is;
           guest_is = world;
           paused_is = refl;
@@ -362,7 +294,7 @@ plan_does (plan.Starts w) live after known m given is tells (asks, image, there,
 plan_does (plan.Restores r) live after known m given is tells asks leaves =
     let n : Machine = carried m asks.load asks.it in (
       n,
-      answered live known m n given (Ok (change.LoadSnapshot asks.load)) _ [] asks.asks
+      answered live known m n given (Ok (call.LoadSnapshot asks.load)) _ [] asks.asks
           (told_of live, tells_is live m tells is.own, refl)
           (refl, subst (λ (f : Result Snapshot Refusal). Restores f m asks.load n) (sym asks.there) refl),
       subst (λ (l : LiveMachine). IsMachine l known n) (sym leaves) (record {

@@ -16,8 +16,8 @@ use Rattle.api_calls.specs.declared.call.SnapshotLoad.{SnapshotLoad}
 use Rattle.api_calls.specs.Call.{◌>>=◌}
 use Rattle.metadata_store.specs.Store.{patched as merged, put}
 use Rattle.vm_config.specs.declared.config.Config.{Config}
-use Rattle.vm_config.specs.declared.change.Change.{Change}
-use Rattle.vm_config.specs.declared.change.Change.TheVariants as change
+use Rattle.api_calls.specs.declared.call.ApiCall.{ApiCall}
+use Rattle.api_calls.specs.declared.call.ApiCall.TheVariants as call
 use Rattle.vm_config.specs.Drives.{device_of}
 use Rattle.api_rules.specs.Table.{unless}
 use Rattle.flat_guest.specs.Start.{started}
@@ -38,78 +38,60 @@ use Rattle.monitor_machine.specs.Plans.{IsPlan, is_plain}
 use Rattle.monitor_machine.specs.State.{IsMachine}
 
 pub refused_plan : (m : Machine) (given : Next) (why : Refusal) → decided m given ≡ Err why → IsPlan (plan.Refused why) m given
-refused_plan m given why is = ap (λ (r : Result Change Refusal). r >>= by_contents m) is
+refused_plan m given why is = ap (λ (r : Result ApiCall Refusal). r >>= by_contents m) is
 
 -- where no other file is given none is missing
 no_refusal : (path : Option (List ℕ)) (saved : Saved) → is_none path ≡ true → file_refusal path saved ≡ None
 no_refusal None saved none = refl
 no_refusal (Some path) saved none = cc
 
-plain_change : (m : Machine) (it : Change) → is_plain it ≡ true → by_contents m it ≡ Ok it
-plain_change m (change.BootSource source) plain = refl
-plain_change m (change.PutDrive drive) plain = cc
-plain_change m (change.PatchDrive patch) plain =
-    ap (λ (o : Option Refusal). unless o (Ok (change.PatchDrive patch))) (no_refusal patch.path_on_host m.saved plain)
-plain_change m (change.PutInterface interface) plain = cc
-plain_change m (change.PatchInterface patch) plain = refl
-plain_change m (change.MachineConfig machine) plain = refl
-plain_change m (change.PutVsock vsock) plain = refl
-plain_change m (change.PutBalloon balloon) plain = refl
-plain_change m (change.PatchBalloon patch) plain = refl
-plain_change m (change.PatchStatistics patch) plain = refl
-plain_change m (change.MmdsConfig mmds) plain = refl
-plain_change m (change.PutMetadata body) plain = cc
-plain_change m (change.PatchMetadata patch) plain = cc
-plain_change m change.Start plain = cc
-plain_change m (change.State state) plain = refl
-plain_change m (change.CreateSnapshot files) plain = cc
-plain_change m (change.LoadSnapshot load) plain = cc
-plain_change m (change.Tell part) plain = refl
+plain_change : (m : Machine) (it : ApiCall) → is_plain it ≡ true → by_contents m it ≡ Ok it
+plain_change m (call.PutDrive drive) plain = cc
+plain_change m (call.PatchDrive patch) plain =
+    ap (λ (o : Option Refusal). unless o (Ok (call.PatchDrive patch))) (no_refusal patch.path_on_host m.saved plain)
+plain_change m (call.PutInterface interface) plain = cc
+plain_change m (call.PutMetadata body) plain = cc
+plain_change m (call.PatchMetadata patch) plain = cc
+plain_change m call.InstanceStart plain = cc
+plain_change m (call.CreateSnapshot files) plain = cc
+plain_change m (call.LoadSnapshot load) plain = cc
+plain_change m it plain = refl
 
-pub changes_plan : (m : Machine) (given : Next) (it : Change) → decided m given ≡ Ok it → is_plain it ≡ true → IsPlan (plan.Changes it) m given
-changes_plan m given it is plain = (ap (λ (r : Result Change Refusal). r >>= by_contents m) is ∙ plain_change m it plain, plain)
+pub changes_plan : (m : Machine) (given : Next) (it : ApiCall) → decided m given ≡ Ok it → is_plain it ≡ true → IsPlan (plan.Changes it) m given
+changes_plan m given it is plain = (ap (λ (r : Result ApiCall Refusal). r >>= by_contents m) is ∙ plain_change m it plain, plain)
 
 -- one that is none of these
-pub plain_left : (it : Change) → ((drive : Drive) → it ≡ change.PutDrive drive → ⊥) → ((patch : DrivePatch) → it ≡ change.PatchDrive patch → ⊥)
-    → ((interface : Interface) → it ≡ change.PutInterface interface → ⊥) → ((body : Data) → it ≡ change.PutMetadata body → ⊥)
-    → ((patch : Data) → it ≡ change.PatchMetadata patch → ⊥) → (it ≡ change.Start → ⊥)
-    → ((create : SnapshotCreate) → it ≡ change.CreateSnapshot create → ⊥) → ((load : SnapshotLoad) → it ≡ change.LoadSnapshot load → ⊥)
+pub plain_left : (it : ApiCall) → ((drive : Drive) → it ≡ call.PutDrive drive → ⊥) → ((patch : DrivePatch) → it ≡ call.PatchDrive patch → ⊥)
+    → ((interface : Interface) → it ≡ call.PutInterface interface → ⊥) → ((body : Data) → it ≡ call.PutMetadata body → ⊥)
+    → ((patch : Data) → it ≡ call.PatchMetadata patch → ⊥) → (it ≡ call.InstanceStart → ⊥)
+    → ((create : SnapshotCreate) → it ≡ call.CreateSnapshot create → ⊥) → ((load : SnapshotLoad) → it ≡ call.LoadSnapshot load → ⊥)
     → is_plain it ≡ true
-plain_left (change.BootSource source) drives files nets puts patches starts creates loads = refl
-plain_left (change.PutDrive drive) drives files nets puts patches starts creates loads = absurd (drives drive refl)
-plain_left (change.PatchDrive patch) drives files nets puts patches starts creates loads = absurd (files patch refl)
-plain_left (change.PutInterface interface) drives files nets puts patches starts creates loads = absurd (nets interface refl)
-plain_left (change.PatchInterface patch) drives files nets puts patches starts creates loads = refl
-plain_left (change.MachineConfig machine) drives files nets puts patches starts creates loads = refl
-plain_left (change.PutVsock vsock) drives files nets puts patches starts creates loads = refl
-plain_left (change.PutBalloon balloon) drives files nets puts patches starts creates loads = refl
-plain_left (change.PatchBalloon patch) drives files nets puts patches starts creates loads = refl
-plain_left (change.PatchStatistics patch) drives files nets puts patches starts creates loads = refl
-plain_left (change.MmdsConfig mmds) drives files nets puts patches starts creates loads = refl
-plain_left (change.PutMetadata body) drives files nets puts patches starts creates loads = absurd (puts body refl)
-plain_left (change.PatchMetadata patch) drives files nets puts patches starts creates loads = absurd (patches patch refl)
-plain_left change.Start drives files nets puts patches starts creates loads = absurd (starts refl)
-plain_left (change.State state) drives files nets puts patches starts creates loads = refl
-plain_left (change.CreateSnapshot create) drives files nets puts patches starts creates loads = absurd (creates create refl)
-plain_left (change.LoadSnapshot load) drives files nets puts patches starts creates loads = absurd (loads load refl)
-plain_left (change.Tell part) drives files nets puts patches starts creates loads = refl
+plain_left (call.PutDrive drive) drives files nets puts patches starts creates loads = absurd (drives drive refl)
+plain_left (call.PatchDrive patch) drives files nets puts patches starts creates loads = absurd (files patch refl)
+plain_left (call.PutInterface interface) drives files nets puts patches starts creates loads = absurd (nets interface refl)
+plain_left (call.PutMetadata body) drives files nets puts patches starts creates loads = absurd (puts body refl)
+plain_left (call.PatchMetadata patch) drives files nets puts patches starts creates loads = absurd (patches patch refl)
+plain_left call.InstanceStart drives files nets puts patches starts creates loads = absurd (starts refl)
+plain_left (call.CreateSnapshot create) drives files nets puts patches starts creates loads = absurd (creates create refl)
+plain_left (call.LoadSnapshot load) drives files nets puts patches starts creates loads = absurd (loads load refl)
+plain_left it drives files nets puts patches starts creates loads = refl
 
 -- ---- metadata
 
 -- what is put
-pub put_plan : (it : Plan) (body : Data) (m : Machine) (given : Next) → decided m given ≡ Ok (change.PutMetadata body)
+pub put_plan : (it : Plan) (body : Data) (m : Machine) (given : Next) → decided m given ≡ Ok (call.PutMetadata body)
     → StoreGives it (put body) → IsPlan it m given
 put_plan (plan.Refused why) body m given asks gives =
-    ap (λ (r : Result Change Refusal). r >>= by_contents m) asks
-    ∙ ap (λ (r : Result Data Refusal). r >>= λ kept. Ok (change.PutMetadata body)) gives
+    ap (λ (r : Result ApiCall Refusal). r >>= by_contents m) asks
+    ∙ ap (λ (r : Result Data Refusal). r >>= λ kept. Ok (call.PutMetadata body)) gives
 put_plan (plan.Changes c) body m given asks gives = absurd gives
 put_plan (plan.Drives drives) body m given asks gives = absurd gives
 put_plan (plan.Interfaces interfaces) body m given asks gives = absurd gives
 put_plan (plan.Resizes r) body m given asks gives = absurd gives
 put_plan (plan.Stores kept) body m given asks gives = (
-  change.PutMetadata body,
-  ap (λ (r : Result Change Refusal). r >>= by_contents m) asks
-      ∙ ap (λ (r : Result Data Refusal). r >>= λ kept. Ok (change.PutMetadata body)) gives,
+  call.PutMetadata body,
+  ap (λ (r : Result ApiCall Refusal). r >>= by_contents m) asks
+      ∙ ap (λ (r : Result Data Refusal). r >>= λ kept. Ok (call.PutMetadata body)) gives,
   gives,
 )
 put_plan (plan.Starts w) body m given asks gives = absurd gives
@@ -119,15 +101,15 @@ put_plan plan.NoMemory body m given asks gives = tt
 
 -- and what is merged
 pub patch_plan : (it : Plan) (stored patch : Data) (m : Machine) (given : Next) → stored ≡ m.metadata
-    → decided m given ≡ Ok (change.PatchMetadata patch) → StoreGives it (merged stored patch) → IsPlan it m given
+    → decided m given ≡ Ok (call.PatchMetadata patch) → StoreGives it (merged stored patch) → IsPlan it m given
 patch_plan it stored patch m given same asks gives =
     by_kind it (subst (λ (d : Data). StoreGives it (merged d patch)) same gives)
   where
-    contents : allowed m given ≡ by_contents m (change.PatchMetadata patch)
-    contents = ap (λ (r : Result Change Refusal). r >>= by_contents m) asks
+    contents : allowed m given ≡ by_contents m (call.PatchMetadata patch)
+    contents = ap (λ (r : Result ApiCall Refusal). r >>= by_contents m) asks
 
-    goes : Result Data Refusal → Result Change Refusal
-    goes due = due >>= λ kept. Ok (change.PatchMetadata patch)
+    goes : Result Data Refusal → Result ApiCall Refusal
+    goes due = due >>= λ kept. Ok (call.PatchMetadata patch)
 
     by_kind : (it : Plan) → StoreGives it (merged m.metadata patch) → IsPlan it m given
     by_kind (plan.Refused why) gives = contents ∙ ap goes gives
@@ -135,7 +117,7 @@ patch_plan it stored patch m given same asks gives =
     by_kind (plan.Drives drives) gives = absurd gives
     by_kind (plan.Interfaces interfaces) gives = absurd gives
     by_kind (plan.Resizes r) gives = absurd gives
-    by_kind (plan.Stores kept) gives = (change.PatchMetadata patch, contents ∙ ap goes gives, gives)
+    by_kind (plan.Stores kept) gives = (call.PatchMetadata patch, contents ∙ ap goes gives, gives)
     by_kind (plan.Starts w) gives = absurd gives
     by_kind (plan.Restores r) gives = absurd gives
     by_kind plan.FilesFailed gives = absurd gives
@@ -144,13 +126,13 @@ patch_plan it stored patch m given same asks gives =
 -- ---- drives
 
 pub drives_plan : (it : Plan) (drive : Drive) (live : LiveMachine) (m : Machine) (given : Next) → live.config ≡ m.config
-    → decided m given ≡ Ok (change.PutDrive drive) → DrivesGive it live.config drive → IsPlan it m given
+    → decided m given ≡ Ok (call.PutDrive drive) → DrivesGive it live.config drive → IsPlan it m given
 drives_plan it drive live m given same asks gives = by_kind it (subst (λ (c : Config). DrivesGive it c drive) same gives)
   where
     by_kind : (it : Plan) → DrivesGive it m.config drive → IsPlan it m given
     by_kind (plan.Refused why) gives = absurd gives
     by_kind (plan.Changes c) gives = absurd gives
-    by_kind (plan.Drives drives) gives = (drive, ap (λ (r : Result Change Refusal). r >>= by_contents m) asks, gives)
+    by_kind (plan.Drives drives) gives = (drive, ap (λ (r : Result ApiCall Refusal). r >>= by_contents m) asks, gives)
     by_kind (plan.Interfaces interfaces) gives = absurd gives
     by_kind (plan.Resizes r) gives = absurd gives
     by_kind (plan.Stores kept) gives = absurd gives
@@ -162,14 +144,14 @@ drives_plan it drive live m given same asks gives = by_kind it (subst (λ (c : C
 -- ---- interfaces
 
 pub interfaces_plan : (it : Plan) (interface : Interface) (live : LiveMachine) (m : Machine) (given : Next) → live.config ≡ m.config
-    → decided m given ≡ Ok (change.PutInterface interface) → InterfacesGive it live.config interface → IsPlan it m given
+    → decided m given ≡ Ok (call.PutInterface interface) → InterfacesGive it live.config interface → IsPlan it m given
 interfaces_plan it interface live m given same asks gives = by_kind it (subst (λ (c : Config). InterfacesGive it c interface) same gives)
   where
     by_kind : (it : Plan) → InterfacesGive it m.config interface → IsPlan it m given
     by_kind (plan.Refused why) gives = absurd gives
     by_kind (plan.Changes c) gives = absurd gives
     by_kind (plan.Drives drives) gives = absurd gives
-    by_kind (plan.Interfaces interfaces) gives = (interface, ap (λ (r : Result Change Refusal). r >>= by_contents m) asks, gives)
+    by_kind (plan.Interfaces interfaces) gives = (interface, ap (λ (r : Result ApiCall Refusal). r >>= by_contents m) asks, gives)
     by_kind (plan.Resizes r) gives = absurd gives
     by_kind (plan.Stores kept) gives = absurd gives
     by_kind (plan.Starts w) gives = absurd gives
@@ -190,28 +172,28 @@ plain_patch : (path : Option (List ℕ)) → path ≡ None → is_none path ≡ 
 plain_patch path none = ap (λ (o : Option (List ℕ)). is_none o) none
 
 pub refile_plan : (it : Plan) (patch : DrivePatch) (live : LiveMachine) (known : FilesKnown) (m : Machine) (given : Next)
-    → IsMachine live known m → decided m given ≡ Ok (change.PatchDrive patch) → PatchGives it live.config patch known.saved
+    → IsMachine live known m → decided m given ≡ Ok (call.PatchDrive patch) → PatchGives it live.config patch known.saved
     → IsPlan it m given
 refile_plan it patch live known m given is asks gives =
     by_kind it (subst (λ (s : Saved). PatchGives it m.config patch s) is.files.saved_is
     (subst (λ (c : Config). PatchGives it c patch known.saved) is.own.config_is gives))
   where
     by_refusal : (o : Option Refusal) → file_refusal patch.path_on_host m.saved ≡ o
-        → allowed m given ≡ unless o (Ok (change.PatchDrive patch))
+        → allowed m given ≡ unless o (Ok (call.PatchDrive patch))
     by_refusal o is =
-        ap (λ (r : Result Change Refusal). r >>= by_contents m) asks
-        ∙ ap (λ (o : Option Refusal). unless o (Ok (change.PatchDrive patch))) is
+        ap (λ (r : Result ApiCall Refusal). r >>= by_contents m) asks
+        ∙ ap (λ (o : Option Refusal). unless o (Ok (call.PatchDrive patch))) is
 
     by_kind : (it : Plan) → PatchGives it m.config patch m.saved → IsPlan it m given
     by_kind (plan.Refused why) gives = by_refusal (Some why) gives
     by_kind (plan.Changes c) (same, none) =
-        subst (λ (x : Change). IsPlan (plan.Changes x) m given) (sym same)
+        subst (λ (x : ApiCall). IsPlan (plan.Changes x) m given) (sym same)
         (by_refusal None (no_refusal patch.path_on_host m.saved (plain_patch patch.path_on_host none)), plain_patch patch.path_on_host none)
     by_kind (plan.Drives drives) gives = absurd gives
     by_kind (plan.Interfaces interfaces) gives = absurd gives
     by_kind (plan.Resizes r) gives = record {
       asks = by_refusal None (file_there patch.path_on_host gives.path m.saved gives.path_is gives.there)
-          ∙ ap (λ (p : DrivePatch). Ok (change.PatchDrive p)) (sym gives.patch_is);
+          ∙ ap (λ (p : DrivePatch). Ok (call.PatchDrive p)) (sym gives.patch_is);
       path = gives.path;
       path_is = ap (λ (p : DrivePatch). p.path_on_host) gives.patch_is ∙ gives.path_is;
       device_is = gives.device_is ∙ ap (λ (p : DrivePatch). device_of m.config.drives p.drive_id) (sym gives.patch_is);
@@ -220,7 +202,7 @@ refile_plan it patch live known m given is asks gives =
     by_kind (plan.Stores kept) gives = absurd gives
     by_kind (plan.Starts w) gives = absurd gives
     by_kind (plan.Restores r) gives = absurd gives
-    by_kind plan.FilesFailed gives = (change.PatchDrive patch, asks, gives)
+    by_kind plan.FilesFailed gives = (call.PatchDrive patch, asks, gives)
     by_kind plan.NoMemory gives = tt
 
 -- ---- a start and a load
@@ -248,36 +230,36 @@ loads_same live known m w image is world =
     (loads_from c image (disk_in c known.saved)) (devices_from c known.saved))) is.own.config_is world)
 
 pub start_plan : (it : Plan) (live : LiveMachine) (known : FilesKnown) (m : Machine) (given : Next) → IsMachine live known m
-    → decided m given ≡ Ok change.Start → StartGives it live.config known.saved → IsPlan it m given
+    → decided m given ≡ Ok call.InstanceStart → StartGives it live.config known.saved → IsPlan it m given
 start_plan (plan.Refused why) live known m given is asks gives =
-    ap (λ (r : Result Change Refusal). r >>= by_contents m) asks
-    ∙ ap (λ (o : Option Refusal). unless o (Ok change.Start)) (sym (refusal_is live known m is) ∙ gives)
+    ap (λ (r : Result ApiCall Refusal). r >>= by_contents m) asks
+    ∙ ap (λ (o : Option Refusal). unless o (Ok call.InstanceStart)) (sym (refusal_is live known m is) ∙ gives)
 start_plan (plan.Changes it) live known m given is asks gives = absurd gives
 start_plan (plan.Drives drives) live known m given is asks gives = absurd gives
 start_plan (plan.Interfaces interfaces) live known m given is asks gives = absurd gives
 start_plan (plan.Resizes r) live known m given is asks gives = absurd gives
 start_plan (plan.Stores kept) live known m given is asks gives = absurd gives
 start_plan (plan.Starts w) live known m given is asks (none, image, there, world) = (
-  ap (λ (r : Result Change Refusal). r >>= by_contents m) asks
-      ∙ ap (λ (o : Option Refusal). unless o (Ok change.Start)) (sym (refusal_is live known m is) ∙ none),
+  ap (λ (r : Result ApiCall Refusal). r >>= by_contents m) asks
+      ∙ ap (λ (o : Option Refusal). unless o (Ok call.InstanceStart)) (sym (refusal_is live known m is) ∙ none),
   image,
   sym (image_is live known m is) ∙ there,
   loads_same live known m w image is world,
 )
 start_plan (plan.Restores r) live known m given is asks gives = absurd gives
-start_plan plan.FilesFailed live known m given is asks gives = (change.Start, asks, refl)
+start_plan plan.FilesFailed live known m given is asks gives = (call.InstanceStart, asks, refl)
 start_plan plan.NoMemory live known m given is asks gives = tt
 
 pub restore_plan : (it : Plan) (load : SnapshotLoad) (live : LiveMachine) (known : FilesKnown) (m : Machine) (given : Next)
-    → IsMachine live known m → decided m given ≡ Ok (change.LoadSnapshot load) → RestoreGives it load known.saved → IsPlan it m given
+    → IsMachine live known m → decided m given ≡ Ok (call.LoadSnapshot load) → RestoreGives it load known.saved → IsPlan it m given
 restore_plan it load live known m given is asks gives =
     by_kind it (subst (λ (s : Saved). RestoreGives it load s) is.files.saved_is gives)
   where
-    files : allowed m given ≡ by_contents m (change.LoadSnapshot load)
-    files = ap (λ (r : Result Change Refusal). r >>= by_contents m) asks
+    files : allowed m given ≡ by_contents m (call.LoadSnapshot load)
+    files = ap (λ (r : Result ApiCall Refusal). r >>= by_contents m) asks
 
-    goes : Result Snapshot Refusal → Result Change Refusal
-    goes found = found >>= λ snapshot. Ok (change.LoadSnapshot load)
+    goes : Result Snapshot Refusal → Result ApiCall Refusal
+    goes found = found >>= λ snapshot. Ok (call.LoadSnapshot load)
 
     by_kind : (it : Plan) → RestoreGives it load m.saved → IsPlan it m given
     by_kind (plan.Refused why) gives = files ∙ ap goes gives
@@ -295,5 +277,5 @@ restore_plan it load live known m given is asks gives =
       goes_on = goes_on;
       resumes_is = resumes;
     }
-    by_kind plan.FilesFailed gives = (change.LoadSnapshot load, asks, refl)
+    by_kind plan.FilesFailed gives = (call.LoadSnapshot load, asks, refl)
     by_kind plan.NoMemory gives = tt

@@ -17,9 +17,10 @@ use Rattle.api_calls.specs.declared.call.VmState.TheVariants.{Paused, Resumed}
 use Rattle.script_text.specs.declared.output.Misfit.{Misfit}
 use Rattle.script_text.specs.declared.output.Misfit.TheVariants as misfit
 use Rattle.vm_config.specs.declared.config.Config.{Config}
-use Rattle.vm_config.specs.declared.change.Change.{Change}
-use Rattle.vm_config.specs.declared.change.Change.TheVariants as change
-use Rattle.vm_config.specs.Changes.{changed, default_config, with_amount, with_interval}
+use Rattle.api_calls.specs.declared.call.ApiCall.{ApiCall}
+use Rattle.api_calls.specs.declared.call.ApiCall.TheVariants as call
+use Rattle.vm_config.specs.Changes.{default_config, with_amount, with_interval}
+use Rattle.api_rules.specs.Table.{changed}
 use Rattle.vm_config.specs.Devices.{balloon_device, interface_device}
 use Rattle.vm_config.specs.Drives.{device_of}
 use Rattle.api_rules.specs.declared.ids.Ids.{Ids}
@@ -192,31 +193,18 @@ retimes_stay : (live : Live) (balloon : Option Balloon) (device : Option ℕ) (a
 retimes_stay live None device after tells it = same_stays live after (sym tells) it
 retimes_stay live (Some b) device after tells it = tells_stay live device (interval_told b) (shows_by (interval_told b)) after (tt, refl) tells it
 
--- what a change that asks no file tells
-pub told_stays : (live : Live) (it : Change) (after : Option WorldValue) → TellsChange it live.config live.guest after → IsReadyLive live
+-- what a call that asks no file tells
+pub told_stays : (live : Live) (it : ApiCall) (after : Option WorldValue) → TellsChange it live.config live.guest after → IsReadyLive live
     → IsReadyLive (record live { guest = after })
-told_stays live (change.PatchDrive patch) after tells it =
+told_stays live (call.PatchDrive patch) after tells it =
     relimits_stay live limits_told limits_given patch.rate_limiter (device_of live.config.drives patch.drive_id) after tells it
-told_stays live (change.PatchInterface patch) after tells it =
+told_stays live (call.PatchInterface patch) after tells it =
     both_stay live patch (interface_device live.config patch.iface_id) after tells it
-told_stays live (change.PatchBalloon patch) after tells it =
+told_stays live (call.PatchBalloon patch) after tells it =
     retargets_stay live (with_amount patch live.config.balloon) (balloon_device live.config) after tells it
-told_stays live (change.PatchStatistics patch) after tells it =
+told_stays live (call.PatchStatistics patch) after tells it =
     retimes_stay live (with_interval patch live.config.balloon) (balloon_device live.config) after tells it
-told_stays live (change.BootSource source) after tells it = same_stays live after (sym tells) it
-told_stays live (change.PutDrive drive) after tells it = same_stays live after (sym tells) it
-told_stays live (change.PutInterface interface) after tells it = same_stays live after (sym tells) it
-told_stays live (change.MachineConfig machine) after tells it = same_stays live after (sym tells) it
-told_stays live (change.PutVsock vsock) after tells it = same_stays live after (sym tells) it
-told_stays live (change.PutBalloon balloon) after tells it = same_stays live after (sym tells) it
-told_stays live (change.MmdsConfig mmds) after tells it = same_stays live after (sym tells) it
-told_stays live (change.PutMetadata body) after tells it = same_stays live after (sym tells) it
-told_stays live (change.PatchMetadata patch) after tells it = same_stays live after (sym tells) it
-told_stays live change.Start after tells it = same_stays live after (sym tells) it
-told_stays live (change.State state) after tells it = same_stays live after (sym tells) it
-told_stays live (change.CreateSnapshot files) after tells it = same_stays live after (sym tells) it
-told_stays live (change.LoadSnapshot load) after tells it = same_stays live after (sym tells) it
-told_stays live (change.Tell part) after tells it = same_stays live after (sym tells) it
+told_stays live it after tells own = same_stays live after (sym tells) own
 
 -- the guest is taken out
 pub taken_out : (live : Live) → IsReadyLive live → IsReadyLive (record live { guest = None })
@@ -235,31 +223,15 @@ taken_out live (m, own, ready) = (
 
 -- ---- it stands still, or goes on
 
-stand_guest : (it : Change) (paused : Bool) (config : Config) (guest : Option Guest) → ReadyBy config paused guest
+stand_guest : (it : ApiCall) (paused : Bool) (config : Config) (guest : Option Guest) → ReadyBy config paused guest
     → (after : Option Guest) × ((w : Option WorldValue) → IsGuestBy w guest → IsGuestBy (world_by it paused w) after)
     × ReadyBy config (paused_by it paused) after
-stand_guest (change.State Paused) paused config guest is =
-    (halted paused guest, λ w here. left_is (change.State Paused) paused w guest here, halted_ready config paused guest is)
-stand_guest (change.State Resumed) paused config guest is = (guest, λ w here. here, resumed_ready config paused guest is)
-stand_guest (change.BootSource source) paused config guest is = (guest, λ w here. here, is)
-stand_guest (change.PutDrive drive) paused config guest is = (guest, λ w here. here, is)
-stand_guest (change.PatchDrive patch) paused config guest is = (guest, λ w here. here, is)
-stand_guest (change.PutInterface interface) paused config guest is = (guest, λ w here. here, is)
-stand_guest (change.PatchInterface patch) paused config guest is = (guest, λ w here. here, is)
-stand_guest (change.MachineConfig machine) paused config guest is = (guest, λ w here. here, is)
-stand_guest (change.PutVsock vsock) paused config guest is = (guest, λ w here. here, is)
-stand_guest (change.PutBalloon balloon) paused config guest is = (guest, λ w here. here, is)
-stand_guest (change.PatchBalloon patch) paused config guest is = (guest, λ w here. here, is)
-stand_guest (change.PatchStatistics patch) paused config guest is = (guest, λ w here. here, is)
-stand_guest (change.MmdsConfig mmds) paused config guest is = (guest, λ w here. here, is)
-stand_guest (change.PutMetadata body) paused config guest is = (guest, λ w here. here, is)
-stand_guest (change.PatchMetadata patch) paused config guest is = (guest, λ w here. here, is)
-stand_guest change.Start paused config guest is = (guest, λ w here. here, is)
-stand_guest (change.CreateSnapshot files) paused config guest is = (guest, λ w here. here, is)
-stand_guest (change.LoadSnapshot load) paused config guest is = (guest, λ w here. here, is)
-stand_guest (change.Tell part) paused config guest is = (guest, λ w here. here, is)
+stand_guest (call.PatchVm Paused) paused config guest is =
+    (halted paused guest, λ w here. left_is (call.PatchVm Paused) paused w guest here, halted_ready config paused guest is)
+stand_guest (call.PatchVm Resumed) paused config guest is = (guest, λ w here. here, resumed_ready config paused guest is)
+stand_guest it paused config guest is = (guest, λ w here. here, is)
 
-pub stand_stays : (live : Live) (it : Change) → IsReadyLive live
+pub stand_stays : (live : Live) (it : ApiCall) → IsReadyLive live
     → IsReadyLive (record live { guest = world_by it live.paused live.guest; paused = paused_by it live.paused })
 stand_stays live it (m, own, ready) =
     let on = stand_guest it m.paused m.config m.guest ready.guest in
@@ -295,11 +267,11 @@ restart_stays live it = by_guest live.guest refl
 pub pause_stays : (live : Live) → live.paused ≡ false → IsReadyLive live
     → IsReadyLive (record live { guest = halted_world false live.guest; paused = true })
 pause_stays live runs it =
-    subst (λ (b : Bool). IsReadyLive (record live { guest = halted_world b live.guest; paused = true })) runs (stand_stays live (change.State Paused) it)
+    subst (λ (b : Bool). IsReadyLive (record live { guest = halted_world b live.guest; paused = true })) runs (stand_stays live (call.PatchVm Paused) it)
 
 -- and one that stood still goes on
 pub resume_stays : (live : Live) → IsReadyLive live → IsReadyLive (record live { paused = false })
-resume_stays live it = stand_stays live (change.State Resumed) it
+resume_stays live it = stand_stays live (call.PatchVm Resumed) it
 
 -- and it is ready with the guest that is taken out
 pub taken_ready : (live : Live) (o : Option WorldValue) → o ≡ live.guest → IsReadyLive live
@@ -309,10 +281,10 @@ taken_ready live (Some w) is it = same_stays live (Some w) (sym is) it
 
 -- ---- a start, and a load
 
-pub start_stays : (live : Live) (w : WorldValue) → HasReadyGuest (changed live.config change.Start) false w → IsReadyLive live
-    → IsReadyLive (record live { config = changed live.config change.Start; guest = Some w; paused = false })
+pub start_stays : (live : Live) (w : WorldValue) → HasReadyGuest (changed live.config call.InstanceStart) false w → IsReadyLive live
+    → IsReadyLive (record live { config = changed live.config call.InstanceStart; guest = Some w; paused = false })
 start_stays live w (g, is, stands) (m, own, ready) = (
-  record m { config = changed live.config change.Start; guest = Some g; paused = false },
+  record m { config = changed live.config call.InstanceStart; guest = Some g; paused = false },
   record {
     id_is = own.id_is;
     ids_is = own.ids_is;
@@ -322,7 +294,7 @@ start_stays live w (g, is, stands) (m, own, ready) = (
     paused_is = refl;
   },
   record {
-    taken = configured_taken (changed live.config change.Start) stands.ready.configured;
+    taken = configured_taken (changed live.config call.InstanceStart) stands.ready.configured;
     guest = stands;
     next = ready.next;
     base = ready.base;

@@ -6,8 +6,8 @@ use Rattle.std.proofs.lemmas.List.{length-map}
 use Rattle.std.proofs.lemmas.Option.{slice_get-map}
 use Rattle.api_calls.specs.declared.balloon.Balloon.{Balloon}
 use Rattle.api_calls.specs.declared.limiter.Limiter.{Limiter}
-use Rattle.vm_config.specs.declared.change.Change.{Change}
-use Rattle.vm_config.specs.declared.change.Change.TheVariants as change
+use Rattle.api_calls.specs.declared.call.ApiCall.{ApiCall}
+use Rattle.api_calls.specs.declared.call.ApiCall.TheVariants as call
 use Rattle.vm_config.specs.declared.config.Config.{Config}
 use Rattle.vm_config.specs.Changes.{with_amount, with_interval}
 use Rattle.vm_config.specs.Devices.{balloon_device, interface_device}
@@ -145,39 +145,26 @@ retimes_at : (balloon : Option Balloon) (number : Option ℕ) (w v : Option Worl
 retimes_at None number w v g is tells = subst (λ (o : Option WorldValue). IsGuestBy o g) (sym tells) is
 retimes_at (Some b) number w v g is tells = tells_at number (interval_told b) (shows_by (interval_told b)) w v g is tells
 
--- what a change that asks no file tells a guest
-abbrev pub told_guest : Change → Config → Option Guest → Option Guest
-told_guest (change.PatchDrive patch) config g = relimited limits_told patch.rate_limiter (device_of config.drives patch.drive_id) g
-told_guest (change.PatchInterface patch) config g =
+-- what a call that asks no file tells a guest
+abbrev pub told_guest : ApiCall → Config → Option Guest → Option Guest
+told_guest (call.PatchDrive patch) config g = relimited limits_told patch.rate_limiter (device_of config.drives patch.drive_id) g
+told_guest (call.PatchInterface patch) config g =
     relimited transmits_told patch.tx_rate_limiter (interface_device config patch.iface_id)
     (relimited receives_told patch.rx_rate_limiter (interface_device config patch.iface_id) g)
-told_guest (change.PatchBalloon patch) config g = retargeted (with_amount patch config.balloon) (balloon_device config) g
-told_guest (change.PatchStatistics patch) config g = retimed (with_interval patch config.balloon) (balloon_device config) g
+told_guest (call.PatchBalloon patch) config g = retargeted (with_amount patch config.balloon) (balloon_device config) g
+told_guest (call.PatchStatistics patch) config g = retimed (with_interval patch config.balloon) (balloon_device config) g
 told_guest it config g = g
 
-pub change_at : (it : Change) (config : Config) (w v : Option WorldValue) (g : Option Guest) → IsGuestBy w g → TellsChange it config w v
+pub change_at : (it : ApiCall) (config : Config) (w v : Option WorldValue) (g : Option Guest) → IsGuestBy w g → TellsChange it config w v
     → IsGuestBy v (told_guest it config g)
-change_at (change.PatchDrive patch) config w v g is tells =
+change_at (call.PatchDrive patch) config w v g is tells =
     relimits_at limits_told patch.rate_limiter (device_of config.drives patch.drive_id) w v g is tells
-change_at (change.PatchInterface patch) config w v g is (mid, receives, transmits) =
+change_at (call.PatchInterface patch) config w v g is (mid, receives, transmits) =
     let number = interface_device config patch.iface_id in
     relimits_at transmits_told patch.tx_rate_limiter number mid v (relimited receives_told patch.rx_rate_limiter number g)
     (relimits_at receives_told patch.rx_rate_limiter number w mid g is receives) transmits
-change_at (change.PatchBalloon patch) config w v g is tells =
+change_at (call.PatchBalloon patch) config w v g is tells =
     retargets_at (with_amount patch config.balloon) (balloon_device config) w v g is tells
-change_at (change.PatchStatistics patch) config w v g is tells =
+change_at (call.PatchStatistics patch) config w v g is tells =
     retimes_at (with_interval patch config.balloon) (balloon_device config) w v g is tells
-change_at (change.BootSource source) config w v g is tells = subst (λ (o : Option WorldValue). IsGuestBy o g) (sym tells) is
-change_at (change.PutDrive drive) config w v g is tells = subst (λ (o : Option WorldValue). IsGuestBy o g) (sym tells) is
-change_at (change.PutInterface interface) config w v g is tells = subst (λ (o : Option WorldValue). IsGuestBy o g) (sym tells) is
-change_at (change.MachineConfig machine) config w v g is tells = subst (λ (o : Option WorldValue). IsGuestBy o g) (sym tells) is
-change_at (change.PutVsock vsock) config w v g is tells = subst (λ (o : Option WorldValue). IsGuestBy o g) (sym tells) is
-change_at (change.PutBalloon balloon) config w v g is tells = subst (λ (o : Option WorldValue). IsGuestBy o g) (sym tells) is
-change_at (change.MmdsConfig mmds) config w v g is tells = subst (λ (o : Option WorldValue). IsGuestBy o g) (sym tells) is
-change_at (change.PutMetadata body) config w v g is tells = subst (λ (o : Option WorldValue). IsGuestBy o g) (sym tells) is
-change_at (change.PatchMetadata patch) config w v g is tells = subst (λ (o : Option WorldValue). IsGuestBy o g) (sym tells) is
-change_at change.Start config w v g is tells = subst (λ (o : Option WorldValue). IsGuestBy o g) (sym tells) is
-change_at (change.State state) config w v g is tells = subst (λ (o : Option WorldValue). IsGuestBy o g) (sym tells) is
-change_at (change.CreateSnapshot it) config w v g is tells = subst (λ (o : Option WorldValue). IsGuestBy o g) (sym tells) is
-change_at (change.LoadSnapshot load) config w v g is tells = subst (λ (o : Option WorldValue). IsGuestBy o g) (sym tells) is
-change_at (change.Tell part) config w v g is tells = subst (λ (o : Option WorldValue). IsGuestBy o g) (sym tells) is
+change_at it config w v g is tells = subst (λ (o : Option WorldValue). IsGuestBy o g) (sym tells) is

@@ -14,9 +14,9 @@ use Rattle.api_calls.specs.declared.call.VmState.TheVariants.{Paused, Resumed}
 use Rattle.metadata_store.specs.Store.{patched, put}
 use Rattle.vm_config.specs.declared.config.Phase.{Phase}
 use Rattle.vm_config.specs.declared.config.Phase.TheVariants as phase
-use Rattle.vm_config.specs.declared.change.Change.{Change}
-use Rattle.vm_config.specs.declared.change.Change.TheVariants as change
-use Rattle.vm_config.specs.Changes.{changed, takes_memory}
+use Rattle.api_calls.specs.declared.call.ApiCall.{ApiCall}
+use Rattle.api_calls.specs.declared.call.ApiCall.TheVariants as call
+use Rattle.api_rules.specs.Table.{changed, reads_files, takes_memory}
 use Rattle.vm_config.specs.Drives.{device_of, put_drive}
 use Rattle.vm_config.specs.Interfaces.{put_interface}
 use Rattle.vm_config.specs.Texts.{Told}
@@ -66,37 +66,22 @@ phase_by (Some w) true = phase.Paused
 abbrev pub phase_of : LiveMachine → Phase
 phase_of live = phase_by live.guest live.paused
 
--- a change that neither makes a guest, nor reads or writes a file, nor stores metadata, nor puts a drive or an interface
-abbrev pub is_plain : Change → Bool
-is_plain (change.PutDrive drive) = false
-is_plain (change.PatchDrive patch) = is_none patch.path_on_host
-is_plain (change.PutInterface interface) = false
-is_plain (change.PutMetadata body) = false
-is_plain (change.PatchMetadata patch) = false
-is_plain change.Start = false
-is_plain (change.CreateSnapshot it) = false
-is_plain (change.LoadSnapshot load) = false
+-- a call that neither makes a guest, nor reads or writes a file, nor stores metadata, nor puts a drive or an interface
+abbrev pub is_plain : ApiCall → Bool
+is_plain (call.PutDrive drive) = false
+is_plain (call.PatchDrive patch) = is_none patch.path_on_host
+is_plain (call.PutInterface interface) = false
+is_plain (call.PutMetadata body) = false
+is_plain (call.PatchMetadata patch) = false
+is_plain call.InstanceStart = false
+is_plain (call.CreateSnapshot it) = false
+is_plain (call.LoadSnapshot load) = false
 is_plain it = true
-
--- a change that reads or writes files
-abbrev pub needs_files : Change → Bool
-needs_files (change.PatchDrive patch) = is_some patch.path_on_host
-needs_files change.Start = true
-needs_files (change.CreateSnapshot it) = true
-needs_files (change.LoadSnapshot load) = true
-needs_files it = false
-
--- a change that reads files and leaves them as they are
-abbrev pub reads_files : Change → Bool
-reads_files (change.PatchDrive patch) = is_some patch.path_on_host
-reads_files change.Start = true
-reads_files (change.LoadSnapshot load) = true
-reads_files it = false
 
 -- a create of the machine's guest is due, and this is what it writes, with this kept of the devices
 pub record IsCreate (c : Creation) (m : Machine) (given : Next) (kept : List Device) : Type 0 where
   pub it : SnapshotCreate
-  pub asks : decided m given ≡ Ok (change.CreateSnapshot it)
+  pub asks : decided m given ≡ Ok (call.CreateSnapshot it)
   pub names_is : c.names ≡ it.files
   pub guest : Guest
   pub there : m.guest ≡ Some guest
@@ -114,7 +99,7 @@ pub record IsCreate (c : Creation) (m : Machine) (given : Next) (kept : List Dev
 -- the machine goes on from what it loads
 pub record IsRestore (r : Restored) (m : Machine) (given : Next) : Type 0 where
   pub load : SnapshotLoad
-  pub asks : allowed m given ≡ Ok (change.LoadSnapshot load)
+  pub asks : allowed m given ≡ Ok (call.LoadSnapshot load)
   pub it : Snapshot
   pub there : found m.saved load.files ≡ Ok it
   pub goes_on : GoesOn r load.track_dirty_pages it
@@ -122,35 +107,35 @@ pub record IsRestore (r : Restored) (m : Machine) (given : Next) : Type 0 where
 
 -- a drive has another file, which is there
 pub record IsAnotherFile (r : Resize) (m : Machine) (given : Next) : Type 0 where
-  pub asks : allowed m given ≡ Ok (change.PatchDrive r.patch)
+  pub asks : allowed m given ≡ Ok (call.PatchDrive r.patch)
   pub path : List ℕ
   pub path_is : r.patch.path_on_host ≡ Some path
   pub device_is : r.device ≡ device_of m.config.drives r.patch.drive_id
   pub sectors_is : r.sectors ≡ sectors_of (get m.saved path)
 
--- what a change stores is this
-abbrev pub IsKept : Data → Machine → Change → Type 0
-IsKept kept m (change.PutMetadata body) = put body ≡ Ok kept
-IsKept kept m (change.PatchMetadata patch) = patched m.metadata patch ≡ Ok kept
+-- what a call stores is this
+abbrev pub IsKept : Data → Machine → ApiCall → Type 0
+IsKept kept m (call.PutMetadata body) = put body ≡ Ok kept
+IsKept kept m (call.PatchMetadata patch) = patched m.metadata patch ≡ Ok kept
 IsKept kept m it = ⊥
 
--- the plan is what the machine does where that is due; where a call on the files failed, a change that reads them was due
+-- the plan is what the machine does where that is due; where a call on the files failed, a call of the API that reads them was due
 abbrev pub IsPlan : Plan → Machine → Next → Type 0
 IsPlan (plan.Refused why) m given = allowed m given ≡ Err why
 IsPlan (plan.Changes it) m given = (allowed m given ≡ Ok it) × (is_plain it ≡ true)
 IsPlan (plan.Drives drives) m given =
-    (drive : Drive) × (allowed m given ≡ Ok (change.PutDrive drive)) × (drives ≡ put_drive m.config.drives drive)
+    (drive : Drive) × (allowed m given ≡ Ok (call.PutDrive drive)) × (drives ≡ put_drive m.config.drives drive)
 IsPlan (plan.Interfaces interfaces) m given =
-    (interface : Interface) × (allowed m given ≡ Ok (change.PutInterface interface))
+    (interface : Interface) × (allowed m given ≡ Ok (call.PutInterface interface))
     × (interfaces ≡ put_interface m.config.interfaces interface)
 IsPlan (plan.Resizes r) m given = IsAnotherFile r m given
-IsPlan (plan.Stores kept) m given = (it : Change) × (allowed m given ≡ Ok it) × IsKept kept m it
+IsPlan (plan.Stores kept) m given = (it : ApiCall) × (allowed m given ≡ Ok it) × IsKept kept m it
 IsPlan (plan.Starts w) m given =
-    (allowed m given ≡ Ok change.Start) × (image : List ℕ) × (image_of m ≡ Some image)
+    (allowed m given ≡ Ok call.InstanceStart) × (image : List ℕ) × (image_of m ≡ Some image)
     × IsWorld w (started m.config.machine.vcpu_count m.config.machine.mem_size_mib (loads_from m.config image (disk_of m))
     (devices_from m.config m.saved))
 IsPlan (plan.Restores r) m given = IsRestore r m given
-IsPlan plan.FilesFailed m given = (it : Change) × (decided m given ≡ Ok it) × (reads_files it ≡ true)
+IsPlan plan.FilesFailed m given = (it : ApiCall) × (decided m given ≡ Ok it) × (reads_files it ≡ true)
 IsPlan plan.NoMemory m given = Unit {0}
 
 abbrev pub IsTask : Task → Machine → Next → List Device → Type 0
@@ -161,23 +146,23 @@ IsTask (task.Create c) m given kept = IsCreate c m given kept
 abbrev pub HasTwoNames : SnapshotFiles → Type 0
 HasTwoNames names = names.mem_file_path ≢ names.snapshot_path
 
-abbrev pub HasTwoFiles : Change → Type 0
-HasTwoFiles (change.CreateSnapshot it) = HasTwoNames it.files
+abbrev pub HasTwoFiles : ApiCall → Type 0
+HasTwoFiles (call.CreateSnapshot it) = HasTwoNames it.files
 HasTwoFiles it = Unit {0}
 
 -- a create is of a guest that is there
-abbrev pub HasGuest : Change → Option WorldValue → Type 0
-HasGuest (change.CreateSnapshot it) world = is_some world ≡ true
+abbrev pub HasGuest : ApiCall → Option WorldValue → Type 0
+HasGuest (call.CreateSnapshot it) world = is_some world ≡ true
 HasGuest it world = Unit {0}
 
 -- and has a number that files can have
-abbrev pub HasNumber : Change → Ids → Type 0
-HasNumber (change.CreateSnapshot it) ids = ids.next < 2 ^ 63
+abbrev pub HasNumber : ApiCall → Ids → Type 0
+HasNumber (call.CreateSnapshot it) ids = ids.next < 2 ^ 63
 HasNumber it ids = Unit {0}
 
--- what is known of a change that the machine decided for: it leaves what is configured as the API takes it, and comes at its
+-- what is known of a call that the machine allows: it leaves what is configured as the API takes it, and comes at its
 -- time; and a create has a guest, two files and a number
-pub record IsDue (live : LiveMachine) (it : Change) : Type 0 where
+pub record IsDue (live : LiveMachine) (it : ApiCall) : Type 0 where
   pub fits : IsFitting live.config it
   pub early : IsEarly it live.guest
   pub guest : HasGuest it live.guest
@@ -237,10 +222,10 @@ plan_outcome (plan.Restores r) = Answered
 plan_outcome plan.FilesFailed = Failed
 plan_outcome plan.NoMemory = NoMemory
 
--- whether the guest stands still after a change
-abbrev pub paused_by : Change → Bool → Bool
-paused_by (change.State Paused) paused = true
-paused_by (change.State Resumed) paused = false
+-- whether the guest stands still after a call
+abbrev pub paused_by : ApiCall → Bool → Bool
+paused_by (call.PatchVm Paused) paused = true
+paused_by (call.PatchVm Resumed) paused = false
 paused_by it paused = paused
 
 -- a world that is to stand still: one that ran begins its timer anew
@@ -249,11 +234,11 @@ halted_world true world = world
 halted_world false None = None
 halted_world false (Some w) = Some (record w { timer = new_timer })
 
-abbrev pub world_by : Change → Bool → Option WorldValue → Option WorldValue
-world_by (change.State Paused) paused world = halted_world paused world
+abbrev pub world_by : ApiCall → Bool → Option WorldValue → Option WorldValue
+world_by (call.PatchVm Paused) paused world = halted_world paused world
 world_by it paused world = world
 
--- and what it leaves, but for a change that tells devices, or another file of a drive
+-- and what it leaves, but for a call that tells devices, or another file of a drive
 abbrev pub plan_after : Plan → LiveMachine → LiveMachine
 plan_after (plan.Drives drives) live =
     record live { config = record live.config { drives = drives; configured = true } }
@@ -261,7 +246,7 @@ plan_after (plan.Interfaces interfaces) live =
     record live { config = record live.config { interfaces = interfaces; configured = true } }
 plan_after (plan.Stores kept) live = record live { metadata = kept }
 plan_after (plan.Starts w) live =
-    record live { config = changed live.config change.Start; guest = Some w; paused = false }
+    record live { config = changed live.config call.InstanceStart; guest = Some w; paused = false }
 plan_after (plan.Restores r) live =
     record live {
       ids = based r.identity r.next live.ids;
@@ -272,8 +257,8 @@ plan_after (plan.Restores r) live =
     }
 plan_after it live = live
 
--- what becomes of the machine by a change that asks no file
-pub record TakesChange (it : Change) (live after : LiveMachine) : Type 0 where
+-- what becomes of the machine by a call that asks no file
+pub record TakesChange (it : ApiCall) (live after : LiveMachine) : Type 0 where
   pub world : TellsChange it live.config (world_by it live.paused live.guest) after.guest
   pub rest :
       after ≡ record live {
@@ -288,9 +273,9 @@ pub record TakesFile (r : Resize) (live after : LiveMachine) : Type 0 where
   pub world : Resizes r.device r.sectors live.guest mid
   pub limits : Relimits limits_told r.patch.rate_limiter r.device mid after.guest
   pub rest :
-      after ≡ record live { config = changed live.config (change.PatchDrive r.patch); guest = after.guest }
+      after ≡ record live { config = changed live.config (call.PatchDrive r.patch); guest = after.guest }
 
--- A plan leaves this. A change that takes memory is none of a plan.
+-- A plan leaves this. A call that takes memory is none of a plan.
 abbrev pub PlanLeaves : Plan → LiveMachine → LiveMachine → Type 0
 PlanLeaves (plan.Changes it) live after = takes_memory it ≡ false → TakesChange it live after
 PlanLeaves (plan.Resizes r) live after = TakesFile r live after

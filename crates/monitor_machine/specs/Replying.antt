@@ -1,11 +1,10 @@
 -- What comes of something that is due.
-use Rattle.std.specs.Prelude.{◌≡◌, ◌≤◌, ℕ, List, ◌++◌, Bool, true, false, is_some, Ok}
+use Rattle.std.specs.Prelude.{◌≡◌, ◌≤◌, ℕ, List, ◌++◌, true, false, Ok}
 use Rattle.vm_types.specs.Causes.{Rose}
 use Rattle.vm_outside.specs.Known.{FilesKnown, Tells}
 use Rattle.http_stream.specs.declared.request.Request.{Request}
 use Rattle.http_stream.specs.declared.request.Next.{Next}
 use Rattle.api_calls.specs.declared.call.ApiCall.{ApiCall}
-use Rattle.api_calls.specs.declared.call.ApiCall.TheVariants as call
 use Rattle.api_calls.specs.Call.{call_of}
 use Rattle.guest_devices.specs.declared.device.Device.{Device}
 use Rattle.flat_machine.specs.Outcome as flat
@@ -14,22 +13,15 @@ use Rattle.flat_machine.specs.Requests.{RequestStep}
 use Rattle.responses.specs.declared.form.ResponseForm.{ResponseForm}
 use Rattle.responses.specs.Responses.{Response, all_written}
 use Rattle.api_rules.specs.declared.answer.Answer.{Answer}
+use Rattle.api_rules.specs.Table.{needs_files}
 use Rattle.monitor_machine.specs.declared.machine.LiveMachine.{LiveMachine}
 use Rattle.monitor_machine.specs.declared.outcome.Outcome.{Outcome}
 use Rattle.monitor_machine.specs.declared.outcome.Outcome.TheVariants.{Answered, Failed, NoMemory}
 use Rattle.monitor_machine.specs.State.{IsMachine}
 
--- the calls of the API that call the files
-abbrev pub calls_files : ApiCall → Bool
-calls_files (call.PatchDrive patch) = is_some patch.path_on_host
-calls_files call.InstanceStart = true
-calls_files (call.CreateSnapshot it) = true
-calls_files (call.LoadSnapshot load) = true
-calls_files it = false
-
--- the request is such a call
+-- the request is a call that reads or writes files
 abbrev pub AsksFiles : Request → Type 0
-AsksFiles request = (it : ApiCall) × (call_of request ≡ Ok it) × (calls_files it ≡ true)
+AsksFiles request = (it : ApiCall) × (call_of request ≡ Ok it) × (needs_files it ≡ true)
 
 -- how a request went, as the flat machine has it
 abbrev pub WentAs : Outcome → flat.Outcome → Type 0

@@ -3,8 +3,8 @@ use Rattle.std.specs.Prelude.{◌≡◌, ℕ, List, Option, Some, None, option_a
 use Rattle.api_calls.specs.declared.balloon.Balloon.{Balloon}
 use Rattle.api_calls.specs.declared.interface.InterfacePatch.{InterfacePatch}
 use Rattle.api_calls.specs.declared.limiter.Limiter.{Limiter}
-use Rattle.vm_config.specs.declared.change.Change.{Change}
-use Rattle.vm_config.specs.declared.change.Change.TheVariants as change
+use Rattle.api_calls.specs.declared.call.ApiCall.{ApiCall}
+use Rattle.api_calls.specs.declared.call.ApiCall.TheVariants as call
 use Rattle.vm_config.specs.declared.config.Config.{Config}
 use Rattle.vm_config.specs.declared.statistics.Statistics as tell
 use Rattle.vm_config.specs.Changes.{with_amount, with_interval}
@@ -86,14 +86,14 @@ abbrev pub Retimes : Option Balloon → Option ℕ → Option WorldValue → Opt
 Retimes None device world after = after ≡ world
 Retimes (Some b) device world after = TellsDevice device (interval_told b) (shows_by (interval_told b)) world after
 
--- what a change tells that asks no file
-abbrev pub TellsChange : Change → Config → Option WorldValue → Option WorldValue → Type 0
-TellsChange (change.PatchDrive patch) config world after =
+-- what a call tells that asks no file
+abbrev pub TellsChange : ApiCall → Config → Option WorldValue → Option WorldValue → Type 0
+TellsChange (call.PatchDrive patch) config world after =
     Relimits limits_told patch.rate_limiter (device_of config.drives patch.drive_id) world after
-TellsChange (change.PatchInterface patch) config world after =
+TellsChange (call.PatchInterface patch) config world after =
     RelimitsBoth patch (interface_device config patch.iface_id) world after
-TellsChange (change.PatchBalloon patch) config world after =
+TellsChange (call.PatchBalloon patch) config world after =
     Retargets (with_amount patch config.balloon) (balloon_device config) world after
-TellsChange (change.PatchStatistics patch) config world after =
+TellsChange (call.PatchStatistics patch) config world after =
     Retimes (with_interval patch config.balloon) (balloon_device config) world after
 TellsChange it config world after = after ≡ world

@@ -2,7 +2,7 @@
 //! comes of one.
 //!
 //! A `LiveMachine` beside its files is the flat machines of `IsMachine`. Each of its calls makes of it what the flat
-//! machine makes of each of those; `answer_request` answers one, by the machine, 500 or 503. What a change tells the devices
+//! machine makes of each of those; `answer_request` answers one, by the machine, 500 or 503. What a call tells the devices
 //! of a guest, and what its balloon tells, are said in `specs/Telling.antt`.
 #![tactic(auto)]
 

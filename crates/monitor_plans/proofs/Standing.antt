@@ -7,8 +7,8 @@ use Rattle.vm_types.specs.declared.identity.Identity.{Identity}
 use Rattle.api_calls.specs.declared.call.BootSource.{BootSource}
 use Rattle.file_format.specs.Identities.{is_numbered}
 use Rattle.vm_config.specs.declared.config.Config.{Config}
-use Rattle.vm_config.specs.declared.change.Change.TheVariants as change
-use Rattle.vm_config.specs.Changes.{changed}
+use Rattle.api_calls.specs.declared.call.ApiCall.TheVariants as call
+use Rattle.api_rules.specs.Table.{changed}
 use Rattle.vm_config.specs.Devices.{device_count}
 use Rattle.guest_memory.specs.Boot.{loads_fit}
 use Rattle.guest_memory.specs.Ram.{page_size}
@@ -44,7 +44,7 @@ pub start_ready : (config : Config) (image : List ℕ) (disk : Option (List ℕ)
     → kinds_at_start devices ≡ kinds_of (configuration_of config) → All IsGivenNew devices
     → loads_fit config.machine.mem_size_mib (length image) (option_map length disk) ≡ true
     → IsWorld w (started config.machine.vcpu_count config.machine.mem_size_mib (loads_from config image disk) devices)
-    → HasReadyGuest (changed config change.Start) false w
+    → HasReadyGuest (changed config call.InstanceStart) false w
 start_ready config image disk devices w taken there many kinds fit fits is =
     let source = some_source config.boot_source there in
     let own = taken_configured config source.0 source.1 taken in

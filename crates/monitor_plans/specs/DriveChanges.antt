@@ -5,7 +5,7 @@ use Rattle.vm_types.specs.Saved.{Saved}
 use Rattle.api_calls.specs.declared.call.Drive.{Drive}
 use Rattle.api_calls.specs.declared.call.DrivePatch.{DrivePatch}
 use Rattle.vm_config.specs.declared.config.Config.{Config}
-use Rattle.vm_config.specs.declared.change.Change.TheVariants as change
+use Rattle.api_calls.specs.declared.call.ApiCall.TheVariants as call
 use Rattle.vm_config.specs.Drives.{device_of, put_drive}
 use Rattle.flat_machine.specs.Requests.{file_refusal, sectors_of}
 use Rattle.monitor_plans.specs.declared.drive_changes.Resize.{Resize}
@@ -26,10 +26,10 @@ pub record IsResize (r : Resize) (config : Config) (patch : DrivePatch) (saved :
   pub device_is : r.device ≡ device_of config.drives patch.drive_id
   pub sectors_is : r.sectors ≡ sectors_of (get saved path)
 
--- without another file a PATCH is a change that asks none
+-- without another file a PATCH is a call that asks none
 abbrev pub PatchGives : Plan → Config → DrivePatch → Saved → Type 0
 PatchGives (plan.Resizes r) config patch saved = IsResize r config patch saved
-PatchGives (plan.Changes it) config patch saved = (it ≡ change.PatchDrive patch) × (patch.path_on_host ≡ None)
+PatchGives (plan.Changes it) config patch saved = (it ≡ call.PatchDrive patch) × (patch.path_on_host ≡ None)
 PatchGives (plan.Refused why) config patch saved = file_refusal patch.path_on_host saved ≡ Some why
 PatchGives plan.FilesFailed config patch saved = is_some patch.path_on_host ≡ true
 PatchGives plan.NoMemory config patch saved = Unit {0}

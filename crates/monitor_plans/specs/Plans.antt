@@ -3,13 +3,15 @@ use Rattle.std.specs.Prelude.{◌≡◌, ◌≤◌, ℕ, ◌+◌, Bool, Option, 
 use Rattle.vm_types.specs.Causes.{Rose}
 use Rattle.refusals.specs.declared.refusal.Refusal.TheVariants as refusal
 use Rattle.vm_config.specs.declared.config.Config.{Config}
-use Rattle.vm_config.specs.declared.change.Change.{Change}
-use Rattle.vm_config.specs.declared.change.Change.TheVariants as change
+use Rattle.api_calls.specs.declared.call.ApiCall.{ApiCall}
+use Rattle.api_calls.specs.declared.call.ApiCall.TheVariants as call
 use Rattle.api_rules.specs.declared.answer.Answer.{Answer}
 use Rattle.api_rules.specs.Answers.{accepted, no_content, refused}
 use Rattle.flat_guest.specs.Guest.{Guest}
 use Rattle.flat_machine.specs.Ready.{AreFitting, AreLinked, IsFitting, IsReadyGuest}
-use Rattle.vm_config.specs.Changes.{changed}
+use Rattle.api_rules.specs.Table.{changed, when_allowed}
+use Rattle.api_rules.specs.declared.deciding.When.{When}
+use Rattle.api_rules.specs.declared.deciding.When.TheVariants.{BeforeBoot}
 use Rattle.vm_config.specs.Texts.{Told}
 use Rattle.vm_world.specs.Worlds.{IsWorld, WorldValue}
 use Rattle.monitor_plans.specs.declared.plan.Plan.{Plan}
@@ -36,7 +38,7 @@ IsFittingPlan (plan.Changes it) config = IsFitting config it
 IsFittingPlan (plan.Drives drives) config = AreFitting drives config.interfaces config.vsock config.balloon
 IsFittingPlan (plan.Interfaces interfaces) config =
     AreLinked config.drives interfaces config.vsock config.balloon config.mmds
-IsFittingPlan (plan.Resizes r) config = IsFitting config (change.PatchDrive r.patch)
+IsFittingPlan (plan.Resizes r) config = IsFitting config (call.PatchDrive r.patch)
 IsFittingPlan it config = Unit {0}
 
 -- the world is a ready guest of a machine that is configured so, which runs or stands still
@@ -45,21 +47,18 @@ HasReadyGuest config paused w = (g : Guest) × IsWorld w g × IsReadyGuest confi
 
 -- a guest that it makes is ready, and a snapshot that it goes on from has a number, behind which the next one is
 abbrev pub IsReadyPlan : Plan → Config → Type 0
-IsReadyPlan (plan.Starts w) config = HasReadyGuest (changed config change.Start) false w
+IsReadyPlan (plan.Starts w) config = HasReadyGuest (changed config call.InstanceStart) false w
 IsReadyPlan (plan.Restores r) config =
     HasReadyGuest r.config true r.guest × (1 ≤ r.identity.number) × (r.next ≡ r.identity.number + 1)
 IsReadyPlan it config = Unit {0}
 
--- of what a machine is made is said before a start
-abbrev pub IsEarly : Change → Option WorldValue → Type 0
-IsEarly (change.BootSource source) world = world ≡ None
-IsEarly (change.PutDrive drive) world = world ≡ None
-IsEarly (change.PutInterface interface) world = world ≡ None
-IsEarly (change.MachineConfig machine) world = world ≡ None
-IsEarly (change.PutVsock vsock) world = world ≡ None
-IsEarly (change.PutBalloon balloon) world = world ≡ None
-IsEarly (change.MmdsConfig mmds) world = world ≡ None
-IsEarly it world = Unit {0}
+-- what is allowed only before a start comes before it
+abbrev pub IsEarlyBy : When → Option WorldValue → Type 0
+IsEarlyBy BeforeBoot world = world ≡ None
+IsEarlyBy it world = Unit {0}
+
+abbrev pub IsEarly : ApiCall → Option WorldValue → Type 0
+IsEarly it world = IsEarlyBy (when_allowed it) world
 
 abbrev pub IsEarlyPlan : Plan → Option WorldValue → Type 0
 IsEarlyPlan (plan.Changes it) world = IsEarly it world

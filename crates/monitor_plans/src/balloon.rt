@@ -1,6 +1,6 @@
 // The balloon: what it starts with, and what it is told.
 ghost use Rattle.std.specs.Prelude.{◌≡◌, ◌≤◌, ◌<◌, ◌^◌, IfSome};
-ghost use Rattle.vm_config.specs.declared.change.Change.TheVariants as change;
+ghost use Rattle.api_calls.specs.declared.call.ApiCall.TheVariants as call;
 ghost use Rattle.vm_config.specs.Changes.{with_amount, with_interval};
 ghost use Rattle.vm_config.specs.Devices.{balloon_device};
 ghost use Rattle.port_table.specs.declared.state.PortState.{PortState};
@@ -69,7 +69,7 @@ pub fn balloon_number(config: &TakenConfig) -> Option<u8>
 
 /// The balloon that is to take another amount, if there is one.
 pub fn amount_patched(config: &TakenConfig, patch: &BalloonPatch) -> Option<Balloon>
-    requires { IsFitting config.now (change.PatchBalloon patch.now) }
+    requires { IsFitting config.now (call.PatchBalloon patch.now) }
     ensures is { result ≡ with_amount patch.now config.now.balloon }
     ensures few { IfSome result (λ b. b.amount_mib ≤ 4096) }
     ensures near { IfSome result (λ b. b.stats_polling_interval_s < 2 ^ 16) }
@@ -86,7 +86,7 @@ pub fn amount_patched(config: &TakenConfig, patch: &BalloonPatch) -> Option<Ball
 
 /// The balloon that has another interval, if there is one.
 pub fn interval_patched(config: &TakenConfig, patch: &StatisticsPatch) -> Option<Balloon>
-    requires { IsFitting config.now (change.PatchStatistics patch.now) }
+    requires { IsFitting config.now (call.PatchStatistics patch.now) }
     ensures is { result ≡ with_interval patch.now config.now.balloon }
     ensures near { IfSome result (λ b. b.stats_polling_interval_s < 2 ^ 16) }
 {

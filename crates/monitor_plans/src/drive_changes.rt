@@ -4,7 +4,7 @@ ghost use Rattle.vm_world.specs.Worlds.{WorldValue};
 ghost use Rattle.std.specs.FinMap.{get};
 ghost use Rattle.vm_types.specs.Saved.{Saved};
 ghost use Rattle.vm_config.specs.Drives.{device_of};
-ghost use Rattle.vm_config.specs.declared.change.Change.TheVariants as change;
+ghost use Rattle.api_calls.specs.declared.call.ApiCall.TheVariants as call;
 ghost use Rattle.flat_machine.specs.Ready.{IsFitting};
 ghost use Rattle.vm_outside.specs.Filing.{SameFiles};
 ghost use Rattle.vm_outside.specs.Known.{Lasts, Tells};
@@ -15,8 +15,7 @@ ghost use Rattle.monitor_plans.specs.Plans.{KeepsReady, PlanCause};
 use crate::drives::sectors_of;
 use crate::plan::Plan;
 use crate::taken_config::TakenConfig;
-use api_calls::{Drive, DrivePatch};
-use api_rules::Change;
+use api_calls::{ApiCall, Drive, DrivePatch};
 use refusals::Refusal;
 use std::alloc::Global;
 use vm_outside::Files;
@@ -34,7 +33,7 @@ pub struct Resize {
 
 /// What comes of a PUT of a drive that the machine allows.
 pub fn put_drive(alloc: Global, config: &TakenConfig, drive: Drive) -> Plan
-    requires { IsFitting config.now (change.PutDrive drive) }
+    requires { IsFitting config.now (call.PutDrive drive) }
     ensures gives { DrivesGive result config.now drive }
     ensures keeps { (world : Option WorldValue) → world ≡ None → KeepsReady result config.now world }
     ensures cause { (n : ℕ) → PlanCause result n n }
@@ -47,7 +46,7 @@ pub fn put_drive(alloc: Global, config: &TakenConfig, drive: Drive) -> Plan
 
 /// What comes of a PATCH of a drive that the machine allows, by the file that it names, if it names one.
 pub fn patch_drive<F: Files>(config: &TakenConfig, patch: DrivePatch, files: &mut F) -> Plan
-    requires { IsFitting config.now (change.PatchDrive patch) }
+    requires { IsFitting config.now (call.PatchDrive patch) }
     ensures gives { Tells (F.known files.old).health → PatchGives result config.now patch (F.known files.old).saved }
     ensures keeps { (world : Option WorldValue) → KeepsReady result config.now world }
     ensures same { Tells (F.known files.old).health → SameFiles (F.known files.old) (F.known files.new) }
@@ -57,7 +56,7 @@ pub fn patch_drive<F: Files>(config: &TakenConfig, patch: DrivePatch, files: &mu
     ensures lasts { Lasts (F.known files.old).health (F.known files.new).health }
 {
     let Some(path) = &patch.path_on_host else {
-        return Plan::Changes(Change::PatchDrive(patch));
+        return Plan::Changes(ApiCall::PatchDrive(patch));
     };
     let Ok(size) = files.size(path.as_str()) else {
         return Plan::FilesFailed;
@@ -70,7 +69,7 @@ pub fn patch_drive<F: Files>(config: &TakenConfig, patch: DrivePatch, files: &mu
 
 // What comes of another file, which has so many sectors.
 fn other_file(config: &TakenConfig, patch: DrivePatch, sectors: u64) -> Plan
-    requires { IsFitting config.now (change.PatchDrive patch) }
+    requires { IsFitting config.now (call.PatchDrive patch) }
     ensures gives { (saved : Saved) (path : List ℕ) → patch.path_on_host ≡ Some path →
         is_some (get saved path) ≡ true → sectors ≡ sectors_of (get saved path) →
         PatchGives result config.now patch saved }

@@ -6,20 +6,21 @@ ghost use Rattle.monitor_plans.specs.Plans.{plan_answer};
 use crate::creating::Creation;
 use crate::drive_changes::Resize;
 use crate::restoring::Restored;
-use api_rules::{Answer, Change, accepted_answer, done_answer, fault_answer};
+use api_calls::ApiCall;
+use api_rules::{Answer, accepted_answer, done_answer, fault_answer};
 use metadata_store::Store;
 use refusals::Refusal;
 use std::alloc::{AllocError, Global};
 use vm_config::{Drives, Interfaces, MachineView};
 use vm_world::World;
 
-/// What comes of a request, where no file is left to be written: it is refused; it changes this; the drives are these; the
+/// What comes of a request, where no file is left to be written: it is refused; this call is done; the drives are these; the
 /// interfaces are these; a drive has another file; it stores these metadata; it starts this guest; it goes on from a snapshot; a call on the files
 /// failed; or there is no memory.
 #[derive(Drop)]
 pub enum Plan {
     Refused(Refusal),
-    Changes(Change),
+    Changes(ApiCall),
     Drives(Drives),
     Interfaces(Interfaces),
     Resizes(Resize),
@@ -44,7 +45,7 @@ impl Plan {
     {
         match self {
             Plan::Refused(why) => fault_answer(alloc, *why),
-            Plan::Changes(change) => accepted_answer(alloc, change, machine),
+            Plan::Changes(call) => accepted_answer(alloc, call, machine),
             Plan::Drives(_) | Plan::Interfaces(_) | Plan::Resizes(_) => Ok(done_answer()),
             Plan::Stores(_) | Plan::Starts(_) | Plan::Restores(_) => Ok(done_answer()),
             Plan::FilesFailed => fault_answer(alloc, Refusal::OutsideFailed),

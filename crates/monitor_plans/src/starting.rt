@@ -9,9 +9,9 @@ ghost use Rattle.flat_snapshot.specs.Copies.{configuration_of};
 ghost use Rattle.snap_state.specs.Valid.{kinds_of};
 ghost use Rattle.flat_machine.specs.Ready.{IsTaken};
 ghost use Rattle.guest_devices.specs.Moments.{IsGivenNew};
-ghost use Rattle.vm_config.specs.Changes.{changed};
+ghost use Rattle.api_rules.specs.Table.{changed};
 ghost use Rattle.vm_config.specs.Devices.{device_count};
-ghost use Rattle.vm_config.specs.declared.change.Change.TheVariants as change;
+ghost use Rattle.api_calls.specs.declared.call.ApiCall.TheVariants as call;
 ghost use Rattle.flat_machine.specs.Requests.{loads_from, initrd_place};
 ghost use Rattle.vm_outside.specs.Filing.{SameFiles};
 ghost use Rattle.vm_outside.specs.Known.{Lasts, Tells};
@@ -164,7 +164,7 @@ fn guest_of(
     ensures world { IfOk result (λ guest.
         IsWorld guest (started config.now.machine.vcpu_count config.now.machine.mem_size_mib
         (loads_from config.now image.now disk.now) devices.now)) }
-    ensures ready { IfOk result (λ guest. HasReadyGuest (changed config.now change.Start) false guest) }
+    ensures ready { IfOk result (λ guest. HasReadyGuest (changed config.now call.InstanceStart) false guest) }
 {
     let machine = config.machine;
     let tree = write_tree(alloc, config, initrd_place(machine.mem_size_mib, disk))?;

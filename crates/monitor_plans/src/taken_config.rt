@@ -1,9 +1,11 @@
 // What is configured, as the API takes it.
 ghost use Rattle.std.specs.Prelude.{◌≡◌, IsOk, OnOk, OnErr, false, true};
-ghost use Rattle.vm_config.specs.Changes.{changed, default_config, takes_memory};
+ghost use Rattle.vm_config.specs.Changes.{default_config};
+ghost use Rattle.api_rules.specs.Table.{changed, takes_memory};
 ghost use Rattle.flat_machine.specs.Ready.{AreFitting, AreLinked, IsFitting, IsTaken};
 
-use api_rules::{Change, Config};
+use api_calls::ApiCall;
+use api_rules::{Config, apply};
 use std::alloc::{AllocError, Global};
 use std::marker::Model;
 use vm_config::{Drives, Interfaces};
@@ -54,13 +56,13 @@ impl TakenConfig {
 
     /// Takes what an accepted call changes, which leaves it as the API takes it. Only one drive or interface more takes memory. An `Err`
     /// changes nothing.
-    pub fn apply(&mut self, change: Change) -> Result<(), AllocError>
-        requires { IsFitting self.old change }
-        ensures succeeds { takes_memory change ≡ false → IsOk result }
-        ensures ok { OnOk result (self.new ≡ changed self.old change) }
+    pub fn apply(&mut self, call: ApiCall) -> Result<(), AllocError>
+        requires { IsFitting self.old call }
+        ensures succeeds { takes_memory call ≡ false → IsOk result }
+        ensures ok { OnOk result (self.new ≡ changed self.old call) }
         ensures err { OnErr result (self.new ≡ self.old) }
     {
-        self.config.apply(change)
+        apply(&mut self.config, call)
     }
 
     /// Takes the drives that a PUT of one leaves, which are as the API takes them.

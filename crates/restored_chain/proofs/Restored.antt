@@ -8,8 +8,8 @@ use Rattle.api_calls.specs.declared.call.SnapshotType.{SnapshotType}
 use Rattle.api_calls.specs.declared.call.SnapshotType.TheVariants as snapshot
 use Rattle.api_rules.specs.Answers.{no_content}
 use Rattle.api_rules.specs.declared.answer.Answer.{Answer}
-use Rattle.vm_config.specs.declared.change.Change.{Change}
-use Rattle.vm_config.specs.declared.change.Change.TheVariants as change
+use Rattle.api_calls.specs.declared.call.ApiCall.{ApiCall}
+use Rattle.api_calls.specs.declared.call.ApiCall.TheVariants as call
 use Rattle.responses.specs.Responses.{Response}
 use Rattle.snap_state.specs.declared.copy.StateCopy.{StateCopy}
 use Rattle.flat_guest.specs.Changes.{reset_guest}
@@ -115,13 +115,13 @@ module _ (trace_ready : TraceReady) where
     led : DiffsLead first savings last
     led = diffs_lead first savings last is.leads
 
-    allows : allowed k is.given ≡ Ok (change.LoadSnapshot load)
+    allows : allowed k is.given ≡ Ok (call.LoadSnapshot load)
     allows =
         let all = calls_merged is.name is.files is.base is.left is.merges in
         allows_last first last savings is.base is.files full_is led is.few is.base_is is.files_are all.0 all.2 k is.given load
         (is.memory ∙ all.1) is.state is.asks
 
-    answer_is : (answer : Answer) → AnswersBy k (Ok (change.LoadSnapshot load)) answer → answer ≡ no_content
+    answer_is : (answer : Answer) → AnswersBy k (Ok (call.LoadSnapshot load)) answer → answer ≡ no_content
     answer_is answer (told, tells, same) = same
 
     pub said_is : said ≡ respond is.given no_content
@@ -129,12 +129,12 @@ module _ (trace_ready : TraceReady) where
         let responds = is.step.0 in
         responds.2
         ∙ ap (respond is.given)
-        (answer_is responds.0 (subst (λ (r : Result Change Refusal). AnswersBy k r responds.0) allows responds.1))
+        (answer_is responds.0 (subst (λ (r : Result ApiCall Refusal). AnswersBy k r responds.0) allows responds.1))
 
     pub carried_is : p ≡ carried k load (snapshot_of last)
     carried_is =
         let all = calls_merged is.name is.files is.base is.left is.merges in
-        let leaves = subst (λ (r : Result Change Refusal). LeavesBy k r is.kept p) allows is.step.1 in
+        let leaves = subst (λ (r : Result ApiCall Refusal). LeavesBy k r is.kept p) allows is.step.1 in
         loads_last first last savings is.base is.files full_is led is.few is.base_is is.files_are all.0 all.2 k p load
         (is.memory ∙ all.1) is.state leaves.1
 

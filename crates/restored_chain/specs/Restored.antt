@@ -7,7 +7,7 @@ use Rattle.http_stream.specs.declared.request.Next.{Next}
 use Rattle.api_calls.specs.declared.call.SnapshotLoad.{SnapshotLoad}
 use Rattle.api_calls.specs.declared.call.SnapshotType.{SnapshotType}
 use Rattle.api_calls.specs.declared.call.SnapshotType.TheVariants as snapshot
-use Rattle.vm_config.specs.declared.change.Change.TheVariants as change
+use Rattle.api_calls.specs.declared.call.ApiCall.TheVariants as call
 use Rattle.responses.specs.Responses.{Response}
 use Rattle.guest_devices.specs.declared.device.Device.{Device}
 use Rattle.flat_guest.specs.Changes.{reset_guest}
@@ -42,7 +42,7 @@ pub record IsAnswered (type : SnapshotType) (s : Saving) : Type 0 where
   pub guest_is : s.guest ≡ reset_guest had
   pub given : Next
   pub said : List Response
-  pub allows : allowed s.before given ≡ Ok (change.CreateSnapshot s.asked)
+  pub allows : allowed s.before given ≡ Ok (call.CreateSnapshot s.asked)
   pub step : RequestStep (Answered s.copy.devices) given s.before said s.after
   pub is_copy : IsCopyOf s.before.config s.guest s.copy
 
@@ -71,5 +71,5 @@ pub record IsRestored (first : Saving) (savings : List Saving) (last : Saving) (
   pub state : get k.saved load.files.snapshot_path ≡ state_text last
   pub given : Next
   pub kept : List Device
-  pub asks : decided k given ≡ Ok (change.LoadSnapshot load)
+  pub asks : decided k given ≡ Ok (call.LoadSnapshot load)
   pub step : RequestStep (Answered kept) given k said p

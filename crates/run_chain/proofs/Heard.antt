@@ -11,7 +11,6 @@ use Rattle.http_stream.specs.Stream.{Answer, Connection, early, waits}
 use Rattle.api_calls.specs.declared.call.ApiCall.{ApiCall}
 use Rattle.api_calls.specs.Call.{◌>>=◌, call_of}
 use Rattle.api_rules.specs.Table.{decision}
-use Rattle.vm_config.specs.declared.change.Change.{Change}
 use Rattle.responses.specs.Responses.{Response}
 use Rattle.guest_devices.specs.declared.device.Device.{Device}
 use Rattle.flat_machine.specs.Items.{TalkLines}
@@ -91,12 +90,12 @@ module _ (one : OneAnswer) where
 
 -- ---- what it leaves, where the machine allows it
 
-module _ (c : ApiCall) (m n : Machine) (it : Change) (heard : Heard c m n) (decides : decision (phase_of m) m.config m.ids c ≡ Ok it)
+module _ (c : ApiCall) (m n : Machine) (it : ApiCall) (heard : Heard c m n) (decides : decision (phase_of m) m.config m.ids c ≡ Ok it)
     (contents : by_contents m it ≡ Ok it) where
   pub allows : allowed m (next.Request heard.request) ≡ Ok it
   allows =
       ap (λ (r : Result ApiCall Refusal). (r >>= λ a. decision (phase_of m) m.config m.ids a) >>= by_contents m) heard.asks
-      ∙ ap (λ (r : Result Change Refusal). r >>= by_contents m) decides ∙ contents
+      ∙ ap (λ (r : Result ApiCall Refusal). r >>= by_contents m) decides ∙ contents
 
   pub leaves_by : LeavesBy m (Ok it) heard.kept heard.mid
-  leaves_by = subst (λ (r : Result Change Refusal). LeavesBy m r heard.kept heard.mid) allows heard.step.1
+  leaves_by = subst (λ (r : Result ApiCall Refusal). LeavesBy m r heard.kept heard.mid) allows heard.step.1

@@ -11,8 +11,7 @@ use Rattle.api_calls.specs.declared.call.SnapshotCreate.{SnapshotCreate}
 use Rattle.api_calls.specs.declared.call.SnapshotType.{SnapshotType}
 use Rattle.api_calls.specs.declared.call.SnapshotType.TheVariants as snapshot
 use Rattle.api_calls.specs.declared.call.VmState.TheVariants.{Paused, Resumed}
-use Rattle.vm_config.specs.declared.change.Change.{Change}
-use Rattle.vm_config.specs.declared.change.Change.TheVariants as change
+use Rattle.api_calls.specs.declared.call.ApiCall.{ApiCall}
 use Rattle.vm_config.specs.declared.config.Phase.{Phase}
 use Rattle.vm_config.specs.declared.config.Phase.TheVariants as phase
 use Rattle.refusals.specs.declared.refusal.Refusal.{Refusal}
@@ -77,7 +76,7 @@ module _ (next : ℕ) (base : Option Identity) (saved : Saved) (m n : Machine) (
 -- ---- it stands still, and runs again
 
 module _ (next : ℕ) (base : Option Identity) (saved : Saved) (m n : Machine) where
-  pause_decided : (p : Phase) → p ≡ phase.Running → decision p m.config m.ids (call.PatchVm Paused) ≡ Ok (change.State Paused)
+  pause_decided : (p : Phase) → p ≡ phase.Running → decision p m.config m.ids (call.PatchVm Paused) ≡ Ok (call.PatchVm Paused)
   pause_decided p runs = ap (λ (x : Phase). decision x m.config m.ids (call.PatchVm Paused)) runs
 
   halted_on : (g : Guest) (paused : Bool) (guest : Option Guest) → guest ≡ Some g → paused ≡ false
@@ -89,7 +88,7 @@ module _ (next : ℕ) (base : Option Identity) (saved : Saved) (m n : Machine) w
   pub pauses_on : IsOn false next base saved m → Heard (call.PatchVm Paused) m n → IsOn true next base saved n
   pauses_on on heard =
       let decides = pause_decided (phase_of m) (running_of m on.guest on.there on.stands) in
-      let left = leaves_by (call.PatchVm Paused) m n (change.State Paused) heard decides refl in
+      let left = leaves_by (call.PatchVm Paused) m n (call.PatchVm Paused) heard decides refl in
       let own = halted_on on.guest m.paused m.guest on.there on.stands in
       on_is true next base saved (record m { guest = halted m.paused m.guest; paused = true; connection = new_connection }) n
       (heard.leaves ∙ ap (λ (q : Machine). record q { connection = new_connection }) left.1)
@@ -104,13 +103,13 @@ module _ (next : ℕ) (base : Option Identity) (saved : Saved) (m n : Machine) w
         saved_is = on.saved_is;
       })
 
-  resume_decided : (p : Phase) → p ≡ phase.Paused → decision p m.config m.ids (call.PatchVm Resumed) ≡ Ok (change.State Resumed)
+  resume_decided : (p : Phase) → p ≡ phase.Paused → decision p m.config m.ids (call.PatchVm Resumed) ≡ Ok (call.PatchVm Resumed)
   resume_decided p stands = ap (λ (x : Phase). decision x m.config m.ids (call.PatchVm Resumed)) stands
 
   pub resumes_on : IsOn true next base saved m → Heard (call.PatchVm Resumed) m n → IsOn false next base saved n
   resumes_on on heard =
       let decides = resume_decided (phase_of m) (standing_of m on.guest on.there on.stands) in
-      let left = leaves_by (call.PatchVm Resumed) m n (change.State Resumed) heard decides refl in
+      let left = leaves_by (call.PatchVm Resumed) m n (call.PatchVm Resumed) heard decides refl in
       on_is false next base saved (record m { paused = false; connection = new_connection }) n
       (heard.leaves ∙ ap (λ (q : Machine). record q { connection = new_connection }) left.1)
       (record {
@@ -128,13 +127,13 @@ module _ (next : ℕ) (base : Option Identity) (saved : Saved) (m n : Machine) w
   pub resumes_guest : IsOn true next base saved m → Heard (call.PatchVm Resumed) m n → n.guest ≡ m.guest
   resumes_guest on heard =
       let decides = resume_decided (phase_of m) (standing_of m on.guest on.there on.stands) in
-      let left = leaves_by (call.PatchVm Resumed) m n (change.State Resumed) heard decides refl in
+      let left = leaves_by (call.PatchVm Resumed) m n (call.PatchVm Resumed) heard decides refl in
       ap (λ (q : Machine). q.guest) (heard.leaves ∙ ap (λ (q : Machine). record q { connection = new_connection }) left.1)
 
 -- ---- a create is allowed
 
 -- by the phase, its type, whether pages are tracked, whether there is no base, and whether no number is left
-abbrev decided_by : Phase → SnapshotType → Bool → Bool → Bool → SnapshotCreate → Result Change Refusal
+abbrev decided_by : Phase → SnapshotType → Bool → Bool → Bool → SnapshotCreate → Result ApiCall Refusal
 decided_by p type tracks none late it =
     unless (misplaced (when_allowed (call.CreateSnapshot it)) p)
     (unless
@@ -143,7 +142,7 @@ decided_by p type tracks none late it =
     ∷ (is_diff type && not tracks, refusal.NotTracked)
     ∷ (is_diff type && none, refusal.NoBase)
     ∷ (late, refusal.NoSlotLeft)
-    ∷ [])) (Ok (change.CreateSnapshot it)))
+    ∷ [])) (Ok (call.CreateSnapshot it)))
 
 module _ (m : Machine) (it : SnapshotCreate) (next : ℕ) (saved : Saved) (below : next < 2 ^ 63) where
   under : (k : ℕ) → k ≡ next → nat_le (2 ^ 63) k ≡ false
@@ -154,7 +153,7 @@ module _ (m : Machine) (it : SnapshotCreate) (next : ℕ) (saved : Saved) (below
       by_test false low = refl
 
   pub full_decided : (base : Option Identity) → IsOn true next base saved m → it.snapshot_type ≡ snapshot.Full
-      → decision (phase_of m) m.config m.ids (call.CreateSnapshot it) ≡ Ok (change.CreateSnapshot it)
+      → decision (phase_of m) m.config m.ids (call.CreateSnapshot it) ≡ Ok (call.CreateSnapshot it)
   full_decided base on full =
       let tracks : Bool = m.config.machine.track_dirty_pages in
       let none : Bool = is_none m.ids.base in
@@ -164,7 +163,7 @@ module _ (m : Machine) (it : SnapshotCreate) (next : ℕ) (saved : Saved) (below
       ∙ ap (λ (b : Bool). decided_by phase.Paused snapshot.Full tracks none b it) (under m.ids.next on.next_is)
 
   pub diff_decided : (parent : Identity) → IsOn true next (Some parent) saved m → it.snapshot_type ≡ snapshot.Diff
-      → decision (phase_of m) m.config m.ids (call.CreateSnapshot it) ≡ Ok (change.CreateSnapshot it)
+      → decision (phase_of m) m.config m.ids (call.CreateSnapshot it) ≡ Ok (call.CreateSnapshot it)
   diff_decided parent on diff =
       let tracks : Bool = m.config.machine.track_dirty_pages in
       let none : Bool = is_none m.ids.base in

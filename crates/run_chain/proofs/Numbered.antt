@@ -84,24 +84,7 @@ diff_of i (Ok (call.CreateSnapshot it)) is =
     ap (λ (l : List ℕ). made_diff l it.files.mem_file_path it.snapshot_type) state
     ∙ ap (λ (l : List ℕ). made_diff (codes "s" ++ decimal i) l it.snapshot_type) memory
     ∙ ap (λ (t : SnapshotType). made_diff (codes "s" ++ decimal i) (codes "d" ++ decimal i) t) (diff_type it.snapshot_type p1.1)
-diff_of i (Ok (call.PutBootSource source)) is = absurd cc
-diff_of i (Ok (call.PutDrive drive)) is = absurd cc
-diff_of i (Ok (call.PatchDrive patch)) is = absurd cc
-diff_of i (Ok (call.PutInterface interface)) is = absurd cc
-diff_of i (Ok (call.PatchInterface patch)) is = absurd cc
-diff_of i (Ok (call.PutMachineConfig machine)) is = absurd cc
-diff_of i (Ok (call.PatchMachineConfig patch)) is = absurd cc
-diff_of i (Ok (call.PutVsock vsock)) is = absurd cc
-diff_of i (Ok (call.PutBalloon balloon)) is = absurd cc
-diff_of i (Ok (call.PatchBalloon patch)) is = absurd cc
-diff_of i (Ok (call.PatchStatistics patch)) is = absurd cc
-diff_of i (Ok (call.PutMmdsConfig mmds)) is = absurd cc
-diff_of i (Ok (call.PutMetadata body)) is = absurd cc
-diff_of i (Ok (call.PatchMetadata patch)) is = absurd cc
-diff_of i (Ok call.InstanceStart) is = absurd cc
-diff_of i (Ok (call.PatchVm state)) is = absurd cc
-diff_of i (Ok (call.LoadSnapshot load)) is = absurd cc
-diff_of i (Ok (call.Get part)) is = absurd cc
+diff_of i (Ok it) is = absurd cc
 diff_of i (Err why) is = absurd cc
 
 abbrev asks_diff : ℕ → Bool
@@ -160,24 +143,7 @@ load_of i (Ok (call.LoadSnapshot it)) is =
     ∙ ap (λ (l : List ℕ). made_load (codes "s" ++ decimal i) l it.track_dirty_pages it.resume_vm) memory
     ∙ ap (λ (b : Bool). made_load (codes "s" ++ decimal i) (codes "m0") b it.resume_vm) (not-true it.track_dirty_pages flags.0)
     ∙ ap (λ (b : Bool). made_load (codes "s" ++ decimal i) (codes "m0") false b) (not-true it.resume_vm flags.1)
-load_of i (Ok (call.PutBootSource source)) is = absurd cc
-load_of i (Ok (call.PutDrive drive)) is = absurd cc
-load_of i (Ok (call.PatchDrive patch)) is = absurd cc
-load_of i (Ok (call.PutInterface interface)) is = absurd cc
-load_of i (Ok (call.PatchInterface patch)) is = absurd cc
-load_of i (Ok (call.PutMachineConfig machine)) is = absurd cc
-load_of i (Ok (call.PatchMachineConfig patch)) is = absurd cc
-load_of i (Ok (call.PutVsock vsock)) is = absurd cc
-load_of i (Ok (call.PutBalloon balloon)) is = absurd cc
-load_of i (Ok (call.PatchBalloon patch)) is = absurd cc
-load_of i (Ok (call.PatchStatistics patch)) is = absurd cc
-load_of i (Ok (call.PutMmdsConfig mmds)) is = absurd cc
-load_of i (Ok (call.PutMetadata body)) is = absurd cc
-load_of i (Ok (call.PatchMetadata patch)) is = absurd cc
-load_of i (Ok call.InstanceStart) is = absurd cc
-load_of i (Ok (call.PatchVm state)) is = absurd cc
-load_of i (Ok (call.CreateSnapshot create)) is = absurd cc
-load_of i (Ok (call.Get part)) is = absurd cc
+load_of i (Ok it) is = absurd cc
 load_of i (Err why) is = absurd cc
 
 abbrev asks_load : ℕ → Bool

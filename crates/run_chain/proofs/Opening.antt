@@ -15,15 +15,13 @@ use Rattle.api_calls.specs.declared.call.MachineConfig.{MachineConfig}
 use Rattle.api_calls.specs.declared.call.SnapshotCreate.{SnapshotCreate}
 use Rattle.api_calls.specs.declared.call.SnapshotType.TheVariants as snapshot
 use Rattle.api_calls.specs.declared.call.VmState.TheVariants.{Paused, Resumed}
-use Rattle.vm_config.specs.Changes.{changed, default_config}
-use Rattle.vm_config.specs.declared.change.Change.{Change}
-use Rattle.vm_config.specs.declared.change.Change.TheVariants as change
+use Rattle.vm_config.specs.Changes.{default_config}
 use Rattle.vm_config.specs.declared.config.Config.{Config}
 use Rattle.vm_config.specs.declared.config.Phase.{Phase}
 use Rattle.vm_config.specs.declared.config.Phase.TheVariants as phase
 use Rattle.refusals.specs.declared.refusal.Refusal.{Refusal}
 use Rattle.api_rules.specs.declared.actions.InitrdFile.TheVariants as initrd
-use Rattle.api_rules.specs.Table.{boot_refusal, decision, unless}
+use Rattle.api_rules.specs.Table.{boot_refusal, changed, decision, unless}
 use Rattle.load_gen.specs.Load.{boot, configure, create_full, image, load_items, opening, pause, resume, rounds, rounds_of, start}
 use Rattle.flat_guest.specs.Guest.{Guest}
 use Rattle.flat_guest.specs.Start.{started}
@@ -59,13 +57,13 @@ abbrev machine : MachineConfig
 machine = record { vcpu_count = 2; mem_size_mib = 4; track_dirty_pages = true }
 
 abbrev booted : Config
-booted = changed default_config (change.BootSource source)
+booted = changed default_config (call.PutBootSource source)
 
 abbrev whole : Config
-whole = changed booted (change.MachineConfig machine)
+whole = changed booted (call.PutMachineConfig machine)
 
--- a change that configures alone
-configures_new : (c : ApiCall) (it : Change) (config : Config) (saved : Saved) (m n : Machine) → IsNew config saved m → Heard c m n
+-- a call that configures alone
+configures_new : (c : ApiCall) (it : ApiCall) (config : Config) (saved : Saved) (m n : Machine) → IsNew config saved m → Heard c m n
     → decision (phase_of m) m.config m.ids c ≡ Ok it → by_contents m it ≡ Ok it
     → ((heard : Heard c m n) → heard.mid ≡ configured m it) → IsNew (changed config it) saved n
 configures_new c it config saved m n new heard decides contents leaves =
@@ -84,19 +82,19 @@ module _ (saved : Saved) (m n : Machine) where
   boots_new : IsNew default_config saved m → Heard (call.PutBootSource source) m n → IsNew booted saved n
   boots_new new heard =
       let p = early m new.none in
-      let decides : decision (phase_of m) m.config m.ids (call.PutBootSource source) ≡ Ok (change.BootSource source) =
+      let decides : decision (phase_of m) m.config m.ids (call.PutBootSource source) ≡ Ok (call.PutBootSource source) =
       ap (λ (x : Phase). decision x m.config m.ids (call.PutBootSource source)) p in
-      configures_new (call.PutBootSource source) (change.BootSource source) default_config saved m n new heard decides refl
-      (λ h. (leaves_by (call.PutBootSource source) m n (change.BootSource source) h decides refl).1)
+      configures_new (call.PutBootSource source) (call.PutBootSource source) default_config saved m n new heard decides refl
+      (λ h. (leaves_by (call.PutBootSource source) m n (call.PutBootSource source) h decides refl).1)
 
   configures_on : IsNew booted saved m → Heard (call.PutMachineConfig machine) m n → IsNew whole saved n
   configures_on new heard =
       let p = early m new.none in
-      let decides : decision (phase_of m) m.config m.ids (call.PutMachineConfig machine) ≡ Ok (change.MachineConfig machine) =
+      let decides : decision (phase_of m) m.config m.ids (call.PutMachineConfig machine) ≡ Ok (call.PutMachineConfig machine) =
       ap (λ (x : Phase). decision x m.config m.ids (call.PutMachineConfig machine)) p
       ∙ ap (λ (c : Config). decision phase.NotStarted c m.ids (call.PutMachineConfig machine)) new.config_is in
-      configures_new (call.PutMachineConfig machine) (change.MachineConfig machine) booted saved m n new heard decides refl
-      (λ h. (leaves_by (call.PutMachineConfig machine) m n (change.MachineConfig machine) h decides refl).1)
+      configures_new (call.PutMachineConfig machine) (call.PutMachineConfig machine) booted saved m n new heard decides refl
+      (λ h. (leaves_by (call.PutMachineConfig machine) m n (call.PutMachineConfig machine) h decides refl).1)
 
 -- ---- the start
 
@@ -104,7 +102,7 @@ module _ (saved : Saved) (m n : Machine) (new : IsNew whole saved m) (heard : He
   image_is : image_of m ≡ Some image
   image_is = ap (λ (c : Config). image_by c.boot_source m.saved) new.config_is ∙ ap (λ (f : Saved). get f (codes "k")) new.saved_is ∙ there
 
-  start_decided : decision (phase_of m) m.config m.ids call.InstanceStart ≡ Ok change.Start
+  start_decided : decision (phase_of m) m.config m.ids call.InstanceStart ≡ Ok call.InstanceStart
   start_decided =
       ap (λ (x : Phase). decision x m.config m.ids call.InstanceStart) (early m new.none)
       ∙ ap (λ (c : Config). decision phase.NotStarted c m.ids call.InstanceStart) new.config_is
@@ -115,16 +113,16 @@ module _ (saved : Saved) (m n : Machine) (new : IsNew whole saved m) (heard : He
       ∙ ap (λ (f : Saved). start_refusal whole f) new.saved_is
       ∙ ap (λ (o : Option (List ℕ)). boot_refusal whole (option_map length o) initrd.Unnamed true) there
 
-  start_contents : by_contents m change.Start ≡ Ok change.Start
-  start_contents = ap (λ (o : Option Refusal). unless o (Ok change.Start)) none_refused
+  start_contents : by_contents m call.InstanceStart ≡ Ok call.InstanceStart
+  start_contents = ap (λ (o : Option Refusal). unless o (Ok call.InstanceStart)) none_refused
 
   starts_on : IsOn false 1 None saved n
   starts_on =
-      let left = leaves_by call.InstanceStart m n change.Start heard start_decided start_contents in
-      let is : n ≡ record (configured (started_from (Some image) (disk_of m) m) change.Start) { connection = new_connection } =
+      let left = leaves_by call.InstanceStart m n call.InstanceStart heard start_decided start_contents in
+      let is : n ≡ record (configured (started_from (Some image) (disk_of m) m) call.InstanceStart) { connection = new_connection } =
       heard.leaves
       ∙ ap (λ (q : Machine). record q { connection = new_connection }) left.1
-      ∙ ap (λ (o : Option (List ℕ)). record (configured (started_from o (disk_of m) m) change.Start) { connection = new_connection }) image_is in
+      ∙ ap (λ (o : Option (List ℕ)). record (configured (started_from o (disk_of m) m) call.InstanceStart) { connection = new_connection }) image_is in
       record {
         guest =
             started m.config.machine.vcpu_count m.config.machine.mem_size_mib (loads_from m.config image (disk_of m))

@@ -13,7 +13,6 @@ use Rattle.api_calls.specs.declared.call.ApiCall.TheVariants as call
 use Rattle.api_calls.specs.declared.call.SnapshotCreate.{SnapshotCreate}
 use Rattle.api_calls.specs.declared.call.SnapshotType.{SnapshotType}
 use Rattle.api_calls.specs.declared.call.SnapshotType.TheVariants as snapshot
-use Rattle.vm_config.specs.declared.change.Change.TheVariants as change
 use Rattle.api_rules.specs.Table.{decision}
 use Rattle.flat_guest.specs.Changes.{reset_guest}
 use Rattle.flat_guest.specs.Guest.{unwritten}
@@ -42,10 +41,10 @@ pub record IsMade (it : SnapshotCreate) (m n : Machine) : Type 0 where
 
 module _ (it : SnapshotCreate) (number : ℕ) (base : Option Identity) (saved : Saved) (m n : Machine) (led : IsLed m)
     (live : is_off m ≡ false) (on : IsOn true number base saved m) (heard : Heard (call.CreateSnapshot it) m n)
-    (decides : decision (phase_of m) m.config m.ids (call.CreateSnapshot it) ≡ Ok (change.CreateSnapshot it)) where
+    (decides : decision (phase_of m) m.config m.ids (call.CreateSnapshot it) ≡ Ok (call.CreateSnapshot it)) where
   pub made_create : IsMade it m n
   made_create =
-      let asks = allows (call.CreateSnapshot it) m n (change.CreateSnapshot it) heard decides refl in
+      let asks = allows (call.CreateSnapshot it) m n (call.CreateSnapshot it) heard decides refl in
       let some =
       some_saving m heard.mid on.guest (next.Request heard.request) it heard.kept heard.said (led_ready m led) on.there asks heard.step in
       let own : Saving =

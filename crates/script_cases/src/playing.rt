@@ -3,7 +3,7 @@ ghost use Rattle.std.specs.Prelude.{◌≡◌, MatchBool};
 ghost use Rattle.vm_types.specs.Causes.{IsCounted};
 
 use crate::sessions::files_with;
-use http_stream::{HeaderList, Request};
+use http_stream::Asked;
 use monitor_machine::LiveMachine;
 use outside_mem::{Failing, MemoryFiles};
 use pause_gate::{Gate, HoldGate};
@@ -189,13 +189,14 @@ impl Trace for Player<'_> {
 }
 
 // A PUT of this body.
-fn put(alloc: Global, path: &str, body: &str) -> Result<Request, AllocError> {
-    Ok(Request {
-        method: TextList::copy_of(alloc, "PUT")?,
-        path: TextList::copy_of(alloc, path)?,
-        headers: HeaderList::new(alloc),
-        body: ByteList::copy_of(alloc, body.as_bytes())?,
-    })
+fn put<'b>(path: &'b str, body: &'b str) -> Asked<'b> {
+    Asked {
+        method: "PUT",
+        path,
+        front: &[],
+        headers: &[],
+        body: body.as_bytes(),
+    }
 }
 
 // The machine is asked for that, whatever it answers.
@@ -206,7 +207,7 @@ fn ask(
     path: &str,
     body: &str,
 ) -> Result<(), AllocError> {
-    let request = put(alloc, path, body)?;
+    let request = put(path, body);
     let mut text = ByteList::new(alloc);
     machine.answer_request(ResponseForm::Line, &request, files, &mut text)?;
     Ok(())

@@ -8,9 +8,7 @@ use Rattle.http_stream.specs.declared.request.Next.{Next}
 use Rattle.api_calls.specs.declared.call.ApiCall.{ApiCall}
 use Rattle.api_calls.specs.declared.call.ApiCall.TheVariants as call
 use Rattle.api_calls.specs.declared.call.SnapshotCreate.{SnapshotCreate}
-use Rattle.api_calls.proofs.Asked.{IsAsked, asked_is}
-use Rattle.vm_config.specs.declared.change.Change.{Change}
-use Rattle.vm_config.specs.declared.change.Change.TheVariants as change
+use Rattle.api_calls.proofs.Asked.{asked_is}
 use Rattle.api_rules.specs.Table.{is_diff, is_paused, own_refusal}
 use Rattle.responses.specs.Responses.{Response}
 use Rattle.snap_state.specs.declared.copy.StateCopy.{StateCopy}
@@ -27,7 +25,6 @@ use Rattle.flat_machine.specs.Outcome.Outcome.{Answered}
 use Rattle.flat_machine.specs.Ready.{Ready}
 use Rattle.flat_machine.specs.Requests.{Creates, LeavesBy, RequestStep, allowed, next_identity}
 use Rattle.flat_machine.proofs.Allowed.{IsAllowed, allowed_is}
-use Rattle.flat_machine.proofs.Numbered.{asked_for}
 use Rattle.flat_machine.proofs.Ready.{can_be_copied, guest_ready}
 use Rattle.snapshot_chain.specs.Chains.{IsSaving}
 use Rattle.snapshot_chain.proofs.Created.{copy_saved}
@@ -46,27 +43,23 @@ stands g guest true there is = refl
 stands g None false there is = absurd cc
 stands g (Some own) false there is = absurd cc
 
-paused_is : (m : Machine) (g : Guest) (it : SnapshotCreate) (c : ApiCall) → m.guest ≡ Some g → c ≡ call.CreateSnapshot it
-    → own_refusal (phase_of m) m.config m.ids c ≡ None → m.paused ≡ true
-paused_is m g it c there is own =
-    let rows = subst (λ (c : ApiCall). own_refusal (phase_of m) m.config m.ids c ≡ None) is own in
+paused_is : (m : Machine) (g : Guest) (it : SnapshotCreate) → m.guest ≡ Some g
+    → own_refusal (phase_of m) m.config m.ids (call.CreateSnapshot it) ≡ None → m.paused ≡ true
+paused_is m g it there own =
     stands g m.guest m.paused there
     (first_row (not (is_paused (phase_of m))) (is_diff it.snapshot_type && not m.config.machine.track_dirty_pages)
-    (is_diff it.snapshot_type && is_none m.ids.base) (nat_le (2 ^ 63) m.ids.next) refusal.NotPaused refusal.NotTracked refusal.NoBase refusal.NoSlotLeft rows)
+    (is_diff it.snapshot_type && is_none m.ids.base) (nat_le (2 ^ 63) m.ids.next) refusal.NotPaused refusal.NotTracked refusal.NoBase refusal.NoSlotLeft own)
 
 module _ (m n : Machine) (g : Guest) (given : Next) (it : SnapshotCreate) (kept : List Device) (said : List Response) (ready : Ready m)
-    (there : m.guest ≡ Some g) (allows : allowed m given ≡ Ok (change.CreateSnapshot it)) (step : RequestStep (Answered kept) given m said n) where
-  known : IsAllowed m (change.CreateSnapshot it)
-  known = allowed_is m given (change.CreateSnapshot it) allows
-
-  asks : known.asked ≡ call.CreateSnapshot it
-  asks = asked_for m.config known.asked it known.change_is
+    (there : m.guest ≡ Some g) (allows : allowed m given ≡ Ok (call.CreateSnapshot it)) (step : RequestStep (Answered kept) given m said n) where
+  known : IsAllowed m (call.CreateSnapshot it)
+  known = allowed_is m given (call.CreateSnapshot it) allows
 
   differ : it.files.mem_file_path ≢ it.files.snapshot_path
-  differ = (subst IsAsked asks (asked_is known.request known.asked known.call_is)).2
+  differ = (asked_is known.request (call.CreateSnapshot it) known.call_is).2
 
   creates : Creates m.guest m it kept n
-  creates = subst (λ (r : Result Change Refusal). LeavesBy m r kept n) allows step.1
+  creates = subst (λ (r : Result ApiCall Refusal). LeavesBy m r kept n) allows step.1
 
   of_guest : Creates (Some g) m it kept n
   of_guest = subst (λ (o : Option Guest). Creates o m it kept n) there creates
@@ -98,7 +91,7 @@ module _ (m n : Machine) (g : Guest) (given : Next) (it : SnapshotCreate) (kept 
       let whole = is.whole in
       carried_alike m.config reset copy current_version (next_identity m) (sound_reset g own.sound) is.is_copy
       (copy_saved it.snapshot_type _ is) is.whole on
-      (own.rests (paused_is m g it known.asked there asks known.own)) (omega (arith, bytes, slots, whole))
+      (own.rests (paused_is m g it there known.own)) (omega (arith, bytes, slots, whole))
 
   pub some_saving : (copy : StateCopy) × (copy.devices ≡ kept)
       × IsSaving it.snapshot_type (record { asked = it; before = m; after = n; guest = reset; copy = copy })

@@ -10,8 +10,8 @@ use Rattle.api_calls.specs.declared.call.SnapshotFiles.{SnapshotFiles}
 use Rattle.api_calls.specs.declared.call.SnapshotLoad.{SnapshotLoad}
 use Rattle.api_calls.specs.declared.call.SnapshotType.{SnapshotType}
 use Rattle.api_calls.specs.declared.call.SnapshotType.TheVariants as snapshot
-use Rattle.vm_config.specs.declared.change.Change.{Change}
-use Rattle.vm_config.specs.declared.change.Change.TheVariants as change
+use Rattle.api_calls.specs.declared.call.ApiCall.{ApiCall}
+use Rattle.api_calls.specs.declared.call.ApiCall.TheVariants as call
 use Rattle.snap_memory.specs.declared.header.MemHeader.{MemHeader}
 use Rattle.snap_memory.specs.Headers as memory
 use Rattle.snap_diff.specs.Copies.{DiffCopy, JoinAll, MemoryCopy, overlaid_all}
@@ -106,14 +106,14 @@ module _ (first last : Saving) (savings : List Saving) (base : List ℕ) (files 
 
     -- so a load that the machine allows is answered
     pub allows_last : (k : Machine) (given : Next) (load : SnapshotLoad) → get k.saved load.files.mem_file_path ≡ Some merged
-        → get k.saved load.files.snapshot_path ≡ state_text last → decided k given ≡ Ok (change.LoadSnapshot load)
-        → allowed k given ≡ Ok (change.LoadSnapshot load)
+        → get k.saved load.files.snapshot_path ≡ state_text last → decided k given ≡ Ok (call.LoadSnapshot load)
+        → allowed k given ≡ Ok (call.LoadSnapshot load)
     allows_last k given load memory_there state_there asks =
-        ap (λ (r : Result Change Refusal). r >>= by_contents k) asks
-        ∙ ap (λ (r : Result Snapshot Refusal). r >>= λ (s : Snapshot). Ok (change.LoadSnapshot load)) (finds_last k.saved load.files memory_there state_there)
+        ap (λ (r : Result ApiCall Refusal). r >>= by_contents k) asks
+        ∙ ap (λ (r : Result Snapshot Refusal). r >>= λ (s : Snapshot). Ok (call.LoadSnapshot load)) (finds_last k.saved load.files memory_there state_there)
 
     pub loads_last : (k p : Machine) (load : SnapshotLoad) → get k.saved load.files.mem_file_path ≡ Some merged → get k.saved load.files.snapshot_path ≡ state_text last
-        → Leaves k (change.LoadSnapshot load) p
+        → Leaves k (call.LoadSnapshot load) p
         → p ≡ carried k load (snapshot_of last)
     loads_last k p load memory_there state_there loads =
         subst (λ (r : Result Snapshot Refusal). Restores r k load p) (finds_last k.saved load.files memory_there state_there) loads

@@ -15,8 +15,8 @@ use Rattle.api_calls.specs.declared.limiter.Limiter.{Limiter}
 use Rattle.api_calls.specs.declared.call.SnapshotCreate.{SnapshotCreate}
 use Rattle.api_calls.specs.declared.call.SnapshotLoad.{SnapshotLoad}
 use Rattle.api_calls.specs.declared.call.VmState.TheVariants.{Paused, Resumed}
-use Rattle.vm_config.specs.declared.change.Change.{Change}
-use Rattle.vm_config.specs.declared.change.Change.TheVariants as change
+use Rattle.api_calls.specs.declared.call.ApiCall.{ApiCall}
+use Rattle.api_calls.specs.declared.call.ApiCall.TheVariants as call
 use Rattle.vm_config.specs.Changes.{with_amount, with_interval}
 use Rattle.vm_config.specs.Devices.{balloon_device, interface_device}
 use Rattle.vm_config.specs.Drives.{device_of}
@@ -48,7 +48,7 @@ On m = is_off m ≡ false
 on_is : (m n : Machine) → n ≡ m → On m → On n
 on_is m n is on = ap is_off is ∙ on
 
--- ---- what a change leaves of the guest
+-- ---- what a call leaves of the guest
 
 raised_off : (b : Board) (k : ℕ) → (raise_line b (DeviceId k)).off ≡ b.off
 raised_off b k = by_line (nat_lt k line_count)
@@ -112,64 +112,45 @@ store_on : (due : Result Data Refusal) (m n : Machine) → On m → Stores due m
 store_on (Ok kept) m n on is = ap is_off is ∙ on
 store_on (Err why) m n on is = on_is m n is on
 
-leaves_on : (it : Change) (m n : Machine) → On m → Leaves m it n → On n
-leaves_on (change.BootSource source) m n on is = ap is_off is ∙ on
-leaves_on (change.PutDrive drive) m n on is = ap is_off is ∙ on
-leaves_on (change.PatchDrive patch) m n on is =
+leaves_on : (it : ApiCall) (m n : Machine) → On m → Leaves m it n → On n
+leaves_on (call.PatchDrive patch) m n on is =
     let number : Option ℕ = device_of m.config.drives patch.drive_id in
     ap is_off is
     ∙ relimited_on limits_told patch.rate_limiter number (resized patch.path_on_host number m.saved m.guest)
     (resized_on patch.path_on_host number m.saved m.guest on)
-leaves_on (change.PutInterface interface) m n on is = ap is_off is ∙ on
-leaves_on (change.PatchInterface patch) m n on is =
+leaves_on (call.PatchInterface patch) m n on is =
     let number : Option ℕ = interface_device m.config patch.iface_id in
     ap is_off is
     ∙ relimited_on transmits_told patch.tx_rate_limiter number (relimited receives_told patch.rx_rate_limiter number m.guest)
     (relimited_on receives_told patch.rx_rate_limiter number m.guest on)
-leaves_on (change.MachineConfig machine) m n on is = ap is_off is ∙ on
-leaves_on (change.PutVsock vsock) m n on is = ap is_off is ∙ on
-leaves_on (change.PutBalloon balloon) m n on is = ap is_off is ∙ on
-leaves_on (change.PatchBalloon patch) m n on is =
+leaves_on (call.PatchBalloon patch) m n on is =
     ap is_off is ∙ retargeted_on (with_amount patch m.config.balloon) (balloon_device m.config) m.guest on
-leaves_on (change.PatchStatistics patch) m n on is =
+leaves_on (call.PatchStatistics patch) m n on is =
     ap is_off is ∙ retimed_on (with_interval patch m.config.balloon) (balloon_device m.config) m.guest on
-leaves_on change.Start m n on is = ap is_off is ∙ started_on (image_of m) (disk_of m) m on
-leaves_on (change.State Paused) m n on is = ap is_off is ∙ halted_on m.paused m.guest on
-leaves_on (change.State Resumed) m n on is = ap is_off is ∙ on
-leaves_on (change.CreateSnapshot it) m n on (kept, x) = create_on m.guest m it kept n on on x
-leaves_on (change.LoadSnapshot load) m n on x = load_on (found m.saved load.files) m load n on x
-leaves_on (change.MmdsConfig mmds) m n on is = ap is_off is ∙ on
-leaves_on (change.PutMetadata body) m n on x = store_on (put body) m n on x
-leaves_on (change.PatchMetadata patch) m n on x = store_on (patched m.metadata patch) m n on x
-leaves_on (change.Tell part) m n on is = on_is m n is on
+leaves_on call.InstanceStart m n on is = ap is_off is ∙ started_on (image_of m) (disk_of m) m on
+leaves_on (call.PatchVm Paused) m n on is = ap is_off is ∙ halted_on m.paused m.guest on
+leaves_on (call.PatchVm Resumed) m n on is = ap is_off is ∙ on
+leaves_on (call.CreateSnapshot it) m n on (kept, x) = create_on m.guest m it kept n on on x
+leaves_on (call.LoadSnapshot load) m n on x = load_on (found m.saved load.files) m load n on x
+leaves_on (call.PutMetadata body) m n on x = store_on (put body) m n on x
+leaves_on (call.PatchMetadata patch) m n on x = store_on (patched m.metadata patch) m n on x
+leaves_on (call.Get part) m n on is = on_is m n is on
+leaves_on it m n on is = ap is_off is ∙ on
 
 create_fails_on : (guest : Option Guest) (m : Machine) (it : SnapshotCreate) (left : Left) (n : Machine) → On m → CreateFails guest m it left n → On n
 create_fails_on None m it left n on x = absurd x
 create_fails_on (Some g) m it left n on short = ap is_off short.leaves ∙ on
 
-fails_on : (it : Change) (m : Machine) (left : Left) (n : Machine) → On m → Fails m it left n → On n
-fails_on (change.BootSource source) m left n on x = absurd x
-fails_on (change.PutDrive drive) m left n on x = absurd x
-fails_on (change.PatchDrive patch) m left n on x = on_is m n x.3 on
-fails_on (change.PutInterface interface) m left n on x = absurd x
-fails_on (change.PatchInterface patch) m left n on x = absurd x
-fails_on (change.MachineConfig machine) m left n on x = absurd x
-fails_on (change.PutVsock vsock) m left n on x = absurd x
-fails_on (change.PutBalloon balloon) m left n on x = absurd x
-fails_on (change.PatchBalloon patch) m left n on x = absurd x
-fails_on (change.PatchStatistics patch) m left n on x = absurd x
-fails_on change.Start m left n on x = on_is m n x.1 on
-fails_on (change.State state) m left n on x = absurd x
-fails_on (change.CreateSnapshot it) m left n on x = create_fails_on m.guest m it left n on x
-fails_on (change.LoadSnapshot load) m left n on x = on_is m n x.1 on
-fails_on (change.MmdsConfig mmds) m left n on x = absurd x
-fails_on (change.PutMetadata body) m left n on x = absurd x
-fails_on (change.PatchMetadata patch) m left n on x = absurd x
-fails_on (change.Tell part) m left n on x = absurd x
+fails_on : (it : ApiCall) (m : Machine) (left : Left) (n : Machine) → On m → Fails m it left n → On n
+fails_on (call.PatchDrive patch) m left n on x = on_is m n x.3 on
+fails_on call.InstanceStart m left n on x = on_is m n x.1 on
+fails_on (call.CreateSnapshot it) m left n on x = create_fails_on m.guest m it left n on x
+fails_on (call.LoadSnapshot load) m left n on x = on_is m n x.1 on
+fails_on it m left n on x = absurd x
 
 -- ---- what is answered
 
-result_on : (result : Result Change Refusal) (m : Machine) (kept : List Device) (n : Machine) → On m → LeavesBy m result kept n → On n
+result_on : (result : Result ApiCall Refusal) (m : Machine) (kept : List Device) (n : Machine) → On m → LeavesBy m result kept n → On n
 result_on (Ok it) m kept n on x = leaves_on it m n on (leaves_of it m kept n x)
 result_on (Err why) m kept n on x = on_is m n x.1 on
 

@@ -9,7 +9,7 @@ ghost use Rattle.api_calls.specs.declared.call.SnapshotFiles.{SnapshotFiles};
 ghost use Rattle.api_calls.specs.declared.call.SnapshotLoad.{SnapshotLoad};
 ghost use Rattle.api_calls.specs.declared.call.SnapshotType.TheVariants as snapshot;
 ghost use Rattle.api_calls.specs.declared.call.SnapshotType.{SnapshotType};
-ghost use Rattle.vm_config.specs.declared.change.Change.TheVariants as change;
+ghost use Rattle.api_calls.specs.declared.call.ApiCall.TheVariants as call;
 ghost use Rattle.file_format.specs.Identities.{identity, is_numbered};
 ghost use Rattle.snap_diff.specs.Copies.{LeadBy};
 ghost use Rattle.snap_diff.specs.Diffs.{IsDiffFile};
@@ -62,7 +62,7 @@ pub fn created_files()
 /// guest that goes on from the snapshot is alike with the one that was saved, as it went on.
 pub fn answered_creates()
     ensures { (m n : Machine) (g : Guest) (given : Next) (it : SnapshotCreate) (kept : List Device) (said : List Response) →
-        Ready m → m.guest ≡ Some g → allowed m given ≡ Ok (change.CreateSnapshot it) →
+        Ready m → m.guest ≡ Some g → allowed m given ≡ Ok (call.CreateSnapshot it) →
         RequestStep (Answered kept) given m said n →
         (copy : StateCopy) × (copy.devices ≡ kept)
         × IsSaving it.snapshot_type (record { asked = it; before = m; after = n; guest = reset_guest g; copy = copy })
@@ -102,7 +102,7 @@ pub fn merged_then_load()
         memory_text first ≡ Some base → map (λ s. memory_text s) savings ≡ map (λ file. Some file) files →
         MergeAll base files merged →
         get k.saved load.files.mem_file_path ≡ Some merged → get k.saved load.files.snapshot_path ≡ state_text last →
-        Leaves k (change.LoadSnapshot load) p →
+        Leaves k (call.LoadSnapshot load) p →
         p ≡ carried k load (snapshot_of last) }
     ensures finds { (first last : Saving) (savings : List Saving) (base merged : List ℕ) (files : List (List ℕ))
         (saved : Saved) (names : SnapshotFiles) →
@@ -117,5 +117,5 @@ pub fn merged_then_load()
         memory_text first ≡ Some base → map (λ s. memory_text s) savings ≡ map (λ file. Some file) files →
         MergeAll base files merged →
         get k.saved load.files.mem_file_path ≡ Some merged → get k.saved load.files.snapshot_path ≡ state_text last →
-        decided k given ≡ Ok (change.LoadSnapshot load) → allowed k given ≡ Ok (change.LoadSnapshot load) }
+        decided k given ≡ Ok (call.LoadSnapshot load) → allowed k given ≡ Ok (call.LoadSnapshot load) }
 {}

@@ -6,23 +6,25 @@ use api_calls::{
     VmState, Vsock,
 };
 use api_json::{ReadError, read};
-use http_stream::{HeaderList, Request};
+use http_stream::Asked;
 use metadata_store::MetadataVersion;
 use std::alloc::{AllocError, Global};
-use vm_types::{ByteList, TextList};
+use vm_types::TextList;
 
 /// Puts the name of the call of a method, a path and a body at the end, for a drive, an interface, a vsock device, a balloon and a
 /// PUT of /mmds/config with its fields, or the number of its refusal.
 pub fn add(alloc: Global, case: &str, text: &mut String) -> Result<(), AllocError> {
-    let request = request_from(alloc, case)?;
-    add_read(alloc, &request, text)
-}
-
-fn request_from(alloc: Global, case: &str) -> Result<Request, AllocError> {
     let (method, rest) = case.split_once(' ').unwrap_or((case, ""));
     let (path, body) = rest.split_once(' ').unwrap_or((rest, ""));
-    let body = ByteList::from_vec(joined(alloc, body)?);
-    request_of(alloc, method, path, body)
+    let body = joined(alloc, body)?;
+    let request = Asked {
+        method,
+        path,
+        front: &[],
+        headers: &[],
+        body: body.as_slice(),
+    };
+    add_read(alloc, &request, text)
 }
 
 fn joined(alloc: Global, pieces: &str) -> Result<Vec<u8>, AllocError> {
@@ -33,24 +35,7 @@ fn joined(alloc: Global, pieces: &str) -> Result<Vec<u8>, AllocError> {
     Ok(bytes)
 }
 
-/// A request without headers.
-pub fn request_of(
-    alloc: Global,
-    method: &str,
-    path: &str,
-    body: ByteList,
-) -> Result<Request, AllocError> {
-    let method = TextList::copy_of(alloc, method)?;
-    let path = TextList::copy_of(alloc, path)?;
-    Ok(Request {
-        method,
-        path,
-        headers: HeaderList::new(alloc),
-        body,
-    })
-}
-
-fn add_read(alloc: Global, request: &Request, text: &mut String) -> Result<(), AllocError> {
+fn add_read(alloc: Global, request: &Asked<'_>, text: &mut String) -> Result<(), AllocError> {
     match read(alloc, request) {
         Ok(call) => add_call(&call, text),
         Err(ReadError::Refused(why)) => write!(text, "{}", why.number()),

@@ -1,12 +1,11 @@
 // Requests to a metadata service, one after another.
-use crate::calls::request_of;
 use crate::escapes::{counted, text_of};
-use http_stream::Request;
+use http_stream::{HeaderList, Request};
 use metadata_service::{Reply, Service};
 use metadata_store::{Store, Tree};
 use serde_json::Value;
 use std::alloc::{AllocError, Global};
-use vm_types::ByteList;
+use vm_types::{ByteList, TextList};
 
 const STORED: &str = r#"{"":{"":"nameless"},"a":{"c":"y","d":{},"e":[1]},"n":5}"#;
 
@@ -65,7 +64,12 @@ fn turn_of(alloc: Global, case: &str) -> Result<Turn, AllocError> {
     let word = number(words.next());
     let method = words.next().unwrap_or("");
     let path = words.next().unwrap_or("");
-    let mut request = request_of(alloc, method, path, ByteList::new(alloc))?;
+    let mut request = Request {
+        method: TextList::copy_of(alloc, method)?,
+        path: TextList::copy_of(alloc, path)?,
+        headers: HeaderList::new(alloc),
+        body: ByteList::new(alloc),
+    };
     add_header(alloc, &mut request, words.next(), words.next())?;
     Ok(Turn { now, word, request })
 }

@@ -1,7 +1,7 @@
 // The bytes that come on a connection, in pieces.
 use crate::escapes::{bytes_of, text_of};
 use http_front::Front;
-use http_stream::{Next, Request};
+use http_stream::{Asked, Given, Next, Request};
 use std::alloc::{AllocError, Global};
 
 /// Puts at the end what each piece gives: requests, and then `-` for none yet, or the number of the refusal.
@@ -31,12 +31,23 @@ fn peek_twice(front: &mut Front, text: &mut String) -> Result<(), AllocError> {
     Ok(())
 }
 
-fn peek(front: &mut Front, text: &mut String) -> Result<(), AllocError> {
-    match &front.peek()? {
-        Next::Request(request) => add_request(request, text),
-        Next::None => text.push('-'),
-        Next::Bad(_) => text.push('!'),
+fn peek(front: &Front, text: &mut String) -> Result<(), AllocError> {
+    match front.peek() {
+        Given::Request(request) => add_asked(&request, text),
+        Given::None => text.push('-'),
+        Given::Bad(_) => text.push('!'),
     }
+}
+
+fn add_asked(request: &Asked<'_>, text: &mut String) -> Result<(), AllocError> {
+    write!(
+        text,
+        "{} {} {} {}|",
+        request.method,
+        request.path,
+        request.headers.len(),
+        text_of(request.body)
+    )
 }
 
 // Puts what up to four calls give at the end, up to the first that gives no request yet.

@@ -1,14 +1,15 @@
 // What is configured.
-ghost use Rattle.std.specs.Prelude.{◌≡◌, true, false, IsOk, IfOk, OnOk, OnErr};
-ghost use Rattle.vm_config.specs.Changes.{changed, default_config, takes_memory};
-ghost use Rattle.vm_config.specs.Drives.{put_drive};
-ghost use Rattle.vm_config.specs.Interfaces.{put_interface};
+ghost use Rattle.std.specs.Prelude.{◌≡◌, true, false, IfOk, OnOk, OnErr};
+ghost use Rattle.vm_config.specs.Changes.{default_config};
+ghost use Rattle.vm_config.specs.Drives.{patch_drive, put_drive};
+ghost use Rattle.vm_config.specs.Interfaces.{patch_interface, put_interface};
 
-use crate::balloon::{with_amount, with_interval};
-use crate::change::Change;
 use crate::drives::Drives;
 use crate::interfaces::Interfaces;
-use api_calls::{Balloon, BootSource, Drive, Interface, MachineConfig, MmdsConfig, Vsock};
+use api_calls::{
+    Balloon, BootSource, Drive, DrivePatch, Interface, InterfacePatch, MachineConfig, MmdsConfig,
+    Vsock,
+};
 use std::alloc::{AllocError, Global};
 
 const DEFAULT_HARTS: u64 = 1;
@@ -59,51 +60,8 @@ impl Config {
         }
     }
 
-    /// Takes what an accepted call changes. What is given moves in, so that only one drive or one interface more takes
-    /// memory. An `Err` changes nothing.
-    pub fn apply(&mut self, change: Change) -> Result<(), AllocError>
-        ensures succeeds { takes_memory change ≡ false → IsOk result }
-        ensures ok { OnOk result (self.new ≡ changed self.old change) }
-        ensures err { OnErr result (self.new ≡ self.old) }
-    {
-        match change {
-            Change::BootSource(source) => {
-                self.boot_source = Some(source);
-                self.configured = true;
-            }
-            Change::PutDrive(drive) => return self.put_drive(drive),
-            Change::PatchDrive(patch) => self.drives.patch(patch),
-            Change::PutInterface(interface) => return self.put_interface(interface),
-            Change::PatchInterface(patch) => self.interfaces.patch(patch),
-            Change::PutVsock(vsock) => {
-                self.vsock = Some(vsock);
-                self.configured = true;
-            }
-            Change::MachineConfig(machine) => {
-                self.machine = machine;
-                self.configured = true;
-            }
-            Change::PutBalloon(balloon) => {
-                self.balloon = Some(balloon);
-                self.configured = true;
-            }
-            Change::PatchBalloon(patch) => self.balloon = with_amount(patch, self.balloon),
-            Change::PatchStatistics(patch) => self.balloon = with_interval(patch, self.balloon),
-            Change::MmdsConfig(mmds) => {
-                self.mmds = Some(mmds);
-                self.configured = true;
-            }
-            Change::Start => self.configured = true,
-            Change::LoadSnapshot(_load) => self.configured = true,
-            Change::PutMetadata(_body) => {}
-            Change::PatchMetadata(_patch) => {}
-            Change::CreateSnapshot(_create) => {}
-            Change::State(_) | Change::Tell(_) => {}
-        }
-        Ok(())
-    }
-
-    fn put_drive(&mut self, drive: Drive) -> Result<(), AllocError>
+    /// Puts a drive among the drives. An `Err` changes nothing.
+    pub fn put_drive(&mut self, drive: Drive) -> Result<(), AllocError>
         ensures ok { OnOk result (self.new
             ≡ record self.old { drives = put_drive self.old.drives drive; configured = true }) }
         ensures err { OnErr result (self.new ≡ self.old) }
@@ -113,7 +71,15 @@ impl Config {
         Ok(())
     }
 
-    fn put_interface(&mut self, interface: Interface) -> Result<(), AllocError>
+    /// Replaces what a PATCH gives of a drive.
+    pub fn patch_drive(&mut self, patch: DrivePatch)
+        ensures { self.new ≡ record self.old { drives = patch_drive self.old.drives patch } }
+    {
+        self.drives.patch(patch);
+    }
+
+    /// Puts an interface among the interfaces. An `Err` changes nothing.
+    pub fn put_interface(&mut self, interface: Interface) -> Result<(), AllocError>
         ensures ok { OnOk result (self.new
             ≡ record self.old { interfaces = put_interface self.old.interfaces interface; configured = true }) }
         ensures err { OnErr result (self.new ≡ self.old) }
@@ -121,6 +87,13 @@ impl Config {
         self.interfaces.put(interface)?;
         self.configured = true;
         Ok(())
+    }
+
+    /// Replaces what a PATCH gives of an interface.
+    pub fn patch_interface(&mut self, patch: InterfacePatch)
+        ensures { self.new ≡ record self.old { interfaces = patch_interface self.old.interfaces patch } }
+    {
+        self.interfaces.patch(patch);
     }
 
     /// The drives with one that is put among them, for `set_drives`: all the memory that a PUT of a drive takes.

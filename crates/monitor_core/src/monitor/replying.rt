@@ -7,7 +7,7 @@ ghost use Rattle.http_stream.specs.Sent.{sent};
 
 use crate::monitor::Monitor;
 use http_front::write_request;
-use http_stream::Next;
+use http_stream::Given;
 use responses::ResponseForm;
 use std::alloc::AllocError;
 use vm_outside::Files;
@@ -37,19 +37,14 @@ impl Monitor {
         ensures lasts { Lasts (F.known files.old).health (F.known files.new).health }
     {
         match self.front.peek() {
-            Ok(Next::None) => Ok(false),
-            Ok(Next::Request(request)) => {
+            Given::None => Ok(false),
+            Given::Request(request) => {
                 self.machine.answer_request(form, &request, files, text)?;
                 self.front.skip();
                 Ok(true)
             }
-            Ok(Next::Bad(why)) => {
+            Given::Bad(why) => {
                 self.machine.refuse(form, why, text)?;
-                self.front.skip();
-                Ok(true)
-            }
-            Err(_) => {
-                self.machine.fall_short(form, text)?;
                 self.front.skip();
                 Ok(true)
             }

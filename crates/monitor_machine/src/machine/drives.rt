@@ -1,12 +1,12 @@
 // What a PATCH of a drive changes.
 ghost use Rattle.std.specs.Prelude.{◌<◌, ◌^◌};
-ghost use Rattle.vm_config.specs.declared.change.Change.TheVariants as change;
+ghost use Rattle.api_calls.specs.declared.call.ApiCall.TheVariants as call;
 ghost use Rattle.flat_machine.specs.Ready.{IsFitting};
 ghost use Rattle.monitor_machine.specs.Telling.{Resizes};
 
 use crate::machine::LiveMachine;
 use crate::machine::telling::{tell_device, tell_limits};
-use api_rules::Change;
+use api_calls::ApiCall;
 use guest_devices::DeviceChange;
 use monitor_plans::{LimitsOf, Resize};
 use vm_world::World;
@@ -24,7 +24,7 @@ impl LiveMachine {
 
     // The name of the file is replaced, and the device is told how many sectors it has, and of other limits if there are.
     pub(super) fn take_file(&mut self, resize: Resize)
-        requires { IsFitting self.old.config (change.PatchDrive resize.patch) }
+        requires { IsFitting self.old.config (call.PatchDrive resize.patch) }
         ensures { TakesFile resize self.old self.new }
     {
         tell_sectors(&mut self.guest, resize.device, resize.sectors);
@@ -34,6 +34,6 @@ impl LiveMachine {
             LimitsOf::Requests,
             &resize.patch.rate_limiter,
         );
-        let _applied = self.config.apply(Change::PatchDrive(resize.patch));
+        let _applied = self.config.apply(ApiCall::PatchDrive(resize.patch));
     }
 }

@@ -2,22 +2,23 @@
 ghost use Rattle.std.specs.Prelude.{◌≡◌, ℕ, List, Ok, false, true};
 ghost use Rattle.vm_outside.specs.Filing.{SameFiles};
 ghost use Rattle.vm_outside.specs.Known.{FilesKnown, Lasts, Tells};
+ghost use Rattle.http_stream.specs.Asked.{request_in};
 ghost use Rattle.http_stream.specs.declared.request.Request.{Request};
 ghost use Rattle.api_calls.specs.Call.{call_of};
-ghost use Rattle.api_rules.specs.Table.{decision};
+ghost use Rattle.api_rules.specs.Table.{decision, needs_files};
 ghost use Rattle.guest_devices.specs.declared.device.Device.{Device};
 ghost use Rattle.flat_machine.specs.Machine.{Machine};
 ghost use Rattle.flat_machine.specs.Ready.{IsTaken};
 ghost use Rattle.flat_machine.specs.Requests.{decided, parent_of};
-ghost use Rattle.vm_config.specs.declared.change.Change.TheVariants as change;
+ghost use Rattle.api_calls.specs.declared.call.ApiCall.TheVariants as call;
 ghost use Rattle.monitor_plans.specs.Plans.{TaskCause};
-ghost use Rattle.monitor_machine.specs.Replying.{AsksFiles, calls_files};
+ghost use Rattle.monitor_machine.specs.Replying.{AsksFiles};
 
 use crate::machine::LiveMachine;
 use api_calls::{ApiCall, SnapshotCreate, SnapshotType};
 use api_json::{ReadError, read};
-use api_rules::{Change, Phase, decide};
-use http_stream::{Next, Request};
+use api_rules::{Phase, decide};
+use http_stream::{Asked, Next};
 use monitor_plans::{
     Plan, Task, create, patch_drive, patch_metadata, put_drive, put_interface, put_metadata,
     restore, start,
@@ -28,7 +29,7 @@ use vm_types::Identity;
 
 impl LiveMachine {
     ghost use Rattle.monitor_machine.specs.Plans.{CallsLater, CallsNone, IsDue, IsReady, IsTask, TaskKeepsReady};
-    ghost use Rattle.monitor_machine.specs.Plans.{needs_files, phase_of};
+    ghost use Rattle.monitor_machine.specs.Plans.{phase_of};
     ghost use Rattle.monitor_machine.specs.State.{IsMachine};
 
     pub(super) fn phase(&self) -> Phase
@@ -41,7 +42,7 @@ impl LiveMachine {
         }
     }
 
-    fn decided(&self, call: ApiCall) -> Result<Change, Refusal>
+    fn decided(&self, call: ApiCall) -> Result<ApiCall, Refusal>
         ensures is { result ≡ decision (phase_of self.now) self.now.config self.now.ids call }
         ensures taken { IsTaken self.now.config }
     {
@@ -58,52 +59,52 @@ impl LiveMachine {
         ensures keeps { TaskKeepsReady result self.now }
         ensures later { CallsLater result (F.known files.old) (F.known files.new) }
         ensures cause { TaskCause result (F.known files.old).health.faults (F.known files.new).health.faults }
-        ensures uncalled { (calls_files call ≡ true → ⊥) → CallsNone result
+        ensures uncalled { (needs_files call ≡ true → ⊥) → CallsNone result
             (F.known files.old).health.faults (F.known files.new).health.faults }
         ensures same { Tells (F.known files.old).health → SameFiles (F.known files.old) (F.known files.new) }
         ensures lasts { Lasts (F.known files.old).health (F.known files.new).health }
     {
         match self.decided(call) {
-            Ok(change) => self.task_of_change(change, files),
+            Ok(call) => self.task_of_allowed(call, files),
             Err(why) => Task::Plan(Plan::Refused(why)),
         }
     }
 
-    // What comes of a change that is allowed, but for what the files and the metadata say.
-    fn task_of_change<F: Files>(&self, change: Change, files: &mut F) -> Task
-        requires { IsDue self.now change }
+    // What comes of a call that is allowed, but for what the files and the metadata say.
+    fn task_of_allowed<F: Files>(&self, call: ApiCall, files: &mut F) -> Task
+        requires { IsDue self.now call }
         ensures task { (kept : List Device) × (Tells (F.known files.old).health → (m : Machine) →
-            IsMachine self.now (F.known files.old) m → (given : Next) → decided m given ≡ Ok change →
+            IsMachine self.now (F.known files.old) m → (given : Next) → decided m given ≡ Ok call →
             IsTask result m given kept) }
         ensures ready { IsReady result self.now.guest }
         ensures keeps { TaskKeepsReady result self.now }
         ensures later { CallsLater result (F.known files.old) (F.known files.new) }
         ensures cause { TaskCause result (F.known files.old).health.faults (F.known files.new).health.faults }
-        ensures uncalled { needs_files change ≡ false → CallsNone result
+        ensures uncalled { needs_files call ≡ false → CallsNone result
             (F.known files.old).health.faults (F.known files.new).health.faults }
         ensures same { Tells (F.known files.old).health → SameFiles (F.known files.old) (F.known files.new) }
         ensures lasts { Lasts (F.known files.old).health (F.known files.new).health }
     {
-        match change {
-            Change::Start => Task::Plan(start(self.alloc, &self.config, files)),
-            Change::LoadSnapshot(load) => Task::Plan(restore(self.alloc, &load, files)),
-            Change::PutDrive(drive) => Task::Plan(put_drive(self.alloc, &self.config, drive)),
-            Change::PatchDrive(patch) => Task::Plan(patch_drive(&self.config, patch, files)),
-            Change::PutInterface(interface) => {
+        match call {
+            ApiCall::InstanceStart => Task::Plan(start(self.alloc, &self.config, files)),
+            ApiCall::LoadSnapshot(load) => Task::Plan(restore(self.alloc, &load, files)),
+            ApiCall::PutDrive(drive) => Task::Plan(put_drive(self.alloc, &self.config, drive)),
+            ApiCall::PatchDrive(patch) => Task::Plan(patch_drive(&self.config, patch, files)),
+            ApiCall::PutInterface(interface) => {
                 Task::Plan(put_interface(self.alloc, &self.config, interface))
             }
-            Change::PutMetadata(body) => Task::Plan(put_metadata(self.alloc, body)),
-            Change::PatchMetadata(patch) => Task::Plan(patch_metadata(&self.metadata, &patch)),
-            Change::CreateSnapshot(create) => self.task_of_create(create),
-            change => Task::Plan(Plan::Changes(change)),
+            ApiCall::PutMetadata(body) => Task::Plan(put_metadata(self.alloc, body)),
+            ApiCall::PatchMetadata(patch) => Task::Plan(patch_metadata(&self.metadata, &patch)),
+            ApiCall::CreateSnapshot(create) => self.task_of_create(create),
+            call => Task::Plan(Plan::Changes(call)),
         }
     }
 
     // What comes of a create.
     fn task_of_create(&self, it: SnapshotCreate) -> Task
-        requires { IsDue self.now (change.CreateSnapshot it) }
+        requires { IsDue self.now (call.CreateSnapshot it) }
         ensures task { (kept : List Device) × ((known : FilesKnown) (m : Machine) → IsMachine self.now known m →
-            (given : Next) → decided m given ≡ Ok (change.CreateSnapshot it) → IsTask result m given kept) }
+            (given : Next) → decided m given ≡ Ok (call.CreateSnapshot it) → IsTask result m given kept) }
         ensures ready { IsReady result self.now.guest }
         ensures keeps { TaskKeepsReady result self.now }
         ensures cause { (n : ℕ) → TaskCause result n n }
@@ -131,14 +132,14 @@ impl LiveMachine {
     }
 
     // What comes of a request.
-    pub(super) fn task<F: Files>(&self, request: &Request, files: &mut F) -> Task
+    pub(super) fn task<F: Files>(&self, request: &Asked<'_>, files: &mut F) -> Task
         ensures task { (kept : List Device) × (Tells (F.known files.old).health → (m : Machine) →
-            IsMachine self.now (F.known files.old) m → IsTask result m (Next.Request request.now) kept) }
+            IsMachine self.now (F.known files.old) m → IsTask result m (Next.Request (request_in request.now)) kept) }
         ensures ready { IsReady result self.now.guest }
         ensures keeps { TaskKeepsReady result self.now }
         ensures later { CallsLater result (F.known files.old) (F.known files.new) }
         ensures cause { TaskCause result (F.known files.old).health.faults (F.known files.new).health.faults }
-        ensures uncalled { (AsksFiles request.now → ⊥) → CallsNone result
+        ensures uncalled { (AsksFiles (request_in request.now) → ⊥) → CallsNone result
             (F.known files.old).health.faults (F.known files.new).health.faults }
         ensures same { Tells (F.known files.old).health → SameFiles (F.known files.old) (F.known files.new) }
         ensures lasts { Lasts (F.known files.old).health (F.known files.new).health }

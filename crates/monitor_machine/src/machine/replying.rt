@@ -1,10 +1,11 @@
 // What is answered to something that is due.
 ghost use Rattle.std.specs.Prelude.{◌≡◌, ◌⊎◌, ◌++◌, false, true, IfOk, None, OnOk, OnErr};
 ghost use Rattle.flat_machine.specs.Ready.{AreFitting, AreLinked, IsFitting};
-ghost use Rattle.vm_config.specs.Changes.{changed};
-ghost use Rattle.vm_config.specs.declared.change.Change.TheVariants as change;
+ghost use Rattle.api_rules.specs.Table.{changed};
+ghost use Rattle.api_calls.specs.declared.call.ApiCall.TheVariants as call;
 ghost use Rattle.vm_outside.specs.Filing.{SameFiles};
 ghost use Rattle.vm_outside.specs.Known.{FilesKnown, Lasts, Tells};
+ghost use Rattle.http_stream.specs.Asked.{request_in};
 ghost use Rattle.http_stream.specs.declared.request.Next.{Next};
 ghost use Rattle.http_stream.specs.declared.request.Request.{Request};
 ghost use Rattle.responses.specs.Responses.{written_as};
@@ -12,9 +13,8 @@ ghost use Rattle.monitor_machine.specs.Plans.{halted_world, paused_by, world_by}
 
 use crate::machine::LiveMachine;
 use crate::outcome::Outcome;
-use api_calls::VmState;
-use api_rules::Change;
-use http_stream::Request;
+use api_calls::{ApiCall, VmState};
+use http_stream::Asked;
 use metadata_store::Store;
 use monitor_plans::{Plan, Restored, Task};
 use refusals::Refusal;
@@ -90,16 +90,16 @@ impl LiveMachine {
         }
     }
 
-    // The guest stands still from now on, or goes on, where the change says so. One that ran begins its timer anew.
-    fn stand(&mut self, change: &Change)
+    // The guest stands still from now on, or goes on, where the call says so. One that ran begins its timer anew.
+    fn stand(&mut self, call: &ApiCall)
         ensures { self.new ≡ record self.old {
-          guest = world_by change.now self.old.paused self.old.guest;
-          paused = paused_by change.now self.old.paused;
+          guest = world_by call.now self.old.paused self.old.guest;
+          paused = paused_by call.now self.old.paused;
         } }
     {
-        match change {
-            Change::State(VmState::Paused) => self.pause(),
-            Change::State(VmState::Resumed) => self.resume(),
+        match call {
+            ApiCall::PatchVm(VmState::Paused) => self.pause(),
+            ApiCall::PatchVm(VmState::Resumed) => self.resume(),
             _ => {}
         }
     }
@@ -120,15 +120,15 @@ impl LiveMachine {
         self.paused = false;
     }
 
-    // The change is done, which takes no memory.
-    fn take_change(&mut self, change: Change)
-        requires fits { IsFitting self.old.config change }
-        requires early { IsEarly change self.old.guest }
-        ensures { PlanLeaves (Plan.Changes change) self.old self.new }
+    // The call is done, which takes no memory.
+    fn take_change(&mut self, call: ApiCall)
+        requires fits { IsFitting self.old.config call }
+        requires early { IsEarly call self.old.guest }
+        ensures { PlanLeaves (Plan.Changes call) self.old self.new }
     {
-        self.stand(&change);
-        self.tell(&change);
-        let _applied = self.config.apply(change);
+        self.stand(&call);
+        self.tell(&call);
+        let _applied = self.config.apply(call);
     }
 
     fn take_drives(&mut self, drives: Drives)
@@ -155,10 +155,10 @@ impl LiveMachine {
 
     // The guest runs.
     fn begin(&mut self, guest: World)
-        requires { HasReadyGuest (changed self.old.config change.Start) false guest }
+        requires { HasReadyGuest (changed self.old.config call.InstanceStart) false guest }
         ensures { PlanLeaves (Plan.Starts guest) self.old self.new }
     {
-        let _applied = self.config.apply(Change::Start);
+        let _applied = self.config.apply(ApiCall::InstanceStart);
         self.guest = Some(guest);
         self.paused = false;
     }
@@ -184,7 +184,7 @@ impl LiveMachine {
     {
         match plan {
             Plan::Refused(_) => {}
-            Plan::Changes(change) => self.take_change(change),
+            Plan::Changes(call) => self.take_change(call),
             Plan::Drives(drives) => self.take_drives(drives),
             Plan::Interfaces(interfaces) => self.take_interfaces(interfaces),
             Plan::Resizes(resize) => self.take_file(resize),
@@ -218,14 +218,14 @@ impl LiveMachine {
     pub fn answer_request<F: Files>(
         &mut self,
         form: ResponseForm,
-        request: &Request,
+        request: &Asked<'_>,
         files: &mut F,
         text: &mut ByteList,
     ) -> Result<Outcome, AllocError>
-        ensures ok { IfOk result (λ how. Replies form (Next.Request request.now) how self.old self.new
+        ensures ok { IfOk result (λ how. Replies form (Next.Request (request_in request.now)) how self.old self.new
             text.old text.new (F.known files.old) (F.known files.new)) }
         ensures err { OnErr result (self.new ≡ self.old) }
-        ensures uncalled { (AsksFiles request.now → ⊥) →
+        ensures uncalled { (AsksFiles (request_in request.now) → ⊥) →
             (F.known files.new).health.faults ≡ (F.known files.old).health.faults }
         ensures same { OnErr result (Tells (F.known files.old).health →
             SameFiles (F.known files.old) (F.known files.new)) }
@@ -259,8 +259,8 @@ impl LiveMachine {
         Ok(how)
     }
 
-    /// Answers 503 to a request that there is no memory to look at. An `Err` changes nothing.
-    pub fn fall_short(
+    // Answers 503 to a request. An `Err` changes nothing.
+    pub(super) fn fall_short(
         &mut self,
         form: ResponseForm,
         text: &mut ByteList,

@@ -1,8 +1,8 @@
-// What a change tells the devices of a guest, and what its balloon tells.
+// What a call tells the devices of a guest, and what its balloon tells.
 ghost use Rattle.std.specs.Prelude.{◌≡◌, ◌≤◌, ◌<◌, ◌^◌, ℕ, Some, true, slice_get};
 ghost use Rattle.api_calls.specs.Form.{holds};
 ghost use Rattle.api_calls.specs.Limits.{is_limiter};
-ghost use Rattle.vm_config.specs.declared.change.Change.TheVariants as change;
+ghost use Rattle.api_calls.specs.declared.call.ApiCall.TheVariants as call;
 ghost use Rattle.vm_config.specs.Changes.{with_amount, with_interval};
 ghost use Rattle.vm_config.specs.Devices.{balloon_device, interface_device};
 ghost use Rattle.guest_devices.specs.declared.device.Device.{Device};
@@ -18,8 +18,7 @@ ghost use Rattle.monitor_plans.specs.Limiting.{tells_of};
 ghost use Rattle.monitor_machine.specs.Telling.{Relimits, RelimitsBoth, Retargets, Retimes, TellsChange, TellsDevice, statistics_at, told_by};
 
 use crate::machine::LiveMachine;
-use api_calls::{Balloon, BalloonPatch, InterfacePatch, Limiter, StatisticsPatch};
-use api_rules::Change;
+use api_calls::{ApiCall, Balloon, BalloonPatch, InterfacePatch, Limiter, StatisticsPatch};
 use guest_devices::DeviceChange;
 use monitor_plans::{
     LimitsOf, TakenConfig, amount_patched, balloon_number, device_number, interface_number,
@@ -69,7 +68,7 @@ pub(super) fn tell_limits(
 
 // The device of an interface is told of both limits.
 fn tell_interface(guest: &mut Option<World>, config: &TakenConfig, patch: &InterfacePatch)
-    requires { IsFitting config.now (change.PatchInterface patch.now) }
+    requires { IsFitting config.now (call.PatchInterface patch.now) }
     ensures { RelimitsBoth patch.now (interface_device config.now patch.now.iface_id) guest.old guest.new }
 {
     let device = interface_number(config, patch.iface_id.as_str());
@@ -113,7 +112,7 @@ fn tell_target(guest: &mut Option<World>, device: Option<u8>, balloon: &Balloon)
 }
 
 fn tell_amount(guest: &mut Option<World>, config: &TakenConfig, patch: &BalloonPatch)
-    requires { IsFitting config.now (change.PatchBalloon patch.now) }
+    requires { IsFitting config.now (call.PatchBalloon patch.now) }
     ensures { Retargets (with_amount patch.now config.now.balloon) (balloon_device config.now) guest.old guest.new }
 {
     let Some(balloon) = amount_patched(config, patch) else {
@@ -123,7 +122,7 @@ fn tell_amount(guest: &mut Option<World>, config: &TakenConfig, patch: &BalloonP
 }
 
 fn tell_interval(guest: &mut Option<World>, config: &TakenConfig, patch: &StatisticsPatch)
-    requires { IsFitting config.now (change.PatchStatistics patch.now) }
+    requires { IsFitting config.now (call.PatchStatistics patch.now) }
     ensures { Retimes (with_interval patch.now config.now.balloon) (balloon_device config.now) guest.old guest.new }
 {
     let Some(balloon) = interval_patched(config, patch) else {
@@ -132,19 +131,19 @@ fn tell_interval(guest: &mut Option<World>, config: &TakenConfig, patch: &Statis
     tell_device(guest, balloon_number(config), interval_told(&balloon));
 }
 
-/// What a change that asks no file tells.
-pub(super) fn tell_change(guest: &mut Option<World>, config: &TakenConfig, change: &Change)
-    requires { IsFitting config.now change.now }
-    ensures { TellsChange change.now config.now guest.old guest.new }
+/// What a call that asks no file tells.
+pub(super) fn tell_change(guest: &mut Option<World>, config: &TakenConfig, call: &ApiCall)
+    requires { IsFitting config.now call.now }
+    ensures { TellsChange call.now config.now guest.old guest.new }
 {
-    match change {
-        Change::PatchDrive(patch) => {
+    match call {
+        ApiCall::PatchDrive(patch) => {
             let device = device_number(config, patch.drive_id.as_str());
             tell_limits(guest, device, LimitsOf::Requests, &patch.rate_limiter);
         }
-        Change::PatchInterface(patch) => tell_interface(guest, config, patch),
-        Change::PatchBalloon(patch) => tell_amount(guest, config, patch),
-        Change::PatchStatistics(patch) => tell_interval(guest, config, patch),
+        ApiCall::PatchInterface(patch) => tell_interface(guest, config, patch),
+        ApiCall::PatchBalloon(patch) => tell_amount(guest, config, patch),
+        ApiCall::PatchStatistics(patch) => tell_interval(guest, config, patch),
         _ => {}
     }
 }
@@ -207,12 +206,12 @@ impl LiveMachine {
         }
     }
 
-    // The devices of its guest are told of a change.
-    pub(super) fn tell(&mut self, change: &Change)
-        requires { IsFitting self.old.config change.now }
-        ensures tells { TellsChange change.now self.old.config self.old.guest self.new.guest }
+    // The devices of its guest are told of what is changed.
+    pub(super) fn tell(&mut self, call: &ApiCall)
+        requires { IsFitting self.old.config call.now }
+        ensures tells { TellsChange call.now self.old.config self.old.guest self.new.guest }
         ensures rest { self.new ≡ record self.old { guest = self.new.guest } }
     {
-        tell_change(&mut self.guest, &self.config, change);
+        tell_change(&mut self.guest, &self.config, call);
     }
 }

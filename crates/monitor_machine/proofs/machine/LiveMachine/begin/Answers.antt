@@ -1,7 +1,7 @@
 use Rattle.std.proofs.Common.{Some, false, refl, sym, subst}
 use Rattle.vm_config.specs.declared.config.Config.{Config}
-use Rattle.vm_config.specs.declared.change.Change.TheVariants as change
-use Rattle.vm_config.specs.Changes.{changed}
+use Rattle.api_calls.specs.declared.call.ApiCall.TheVariants as call
+use Rattle.api_rules.specs.Table.{changed}
 use Rattle.monitor_plans.specs.Plans.{HasReadyGuest}
 use Rattle.monitor_machine.specs.Live.{Live}
 use Rattle.monitor_machine.specs.Ready.{IsReadyLive}
@@ -15,4 +15,4 @@ invariant_of-self c =
     subst (λ (k : Config). IsReadyLive (record (live_of c.self.inside) { config = k; guest = Some c.args.guest; paused = false }))
     (sym (applied_is c.apply-applied.result _ (c.apply-applied.ensures.succeeds refl) c.apply-applied.ensures.ok))
     (start_stays (live_of c.self.inside) c.args.guest
-    (subst (λ (l : Live). HasReadyGuest (changed l.config change.Start) false c.args.guest) (sym c.self.view_is) c.requires) c.self.invariant)
+    (subst (λ (l : Live). HasReadyGuest (changed l.config call.InstanceStart) false c.args.guest) (sym c.self.view_is) c.requires) c.self.invariant)

@@ -1,7 +1,7 @@
 use Rattle.std.proofs.Common.{refl, sym, ap, subst}
 use Rattle.vm_config.specs.declared.config.Config.{Config}
 use Rattle.guest_devices.specs.Kinds.{sectors_change}
-use Rattle.vm_config.specs.declared.change.Change.TheVariants as change
+use Rattle.api_calls.specs.declared.call.ApiCall.TheVariants as call
 use Rattle.flat_machine.specs.Limits.{limits_told}
 use Rattle.flat_machine.specs.Ready.{IsFitting}
 use Rattle.flat_machine.specs.Requests.{shows_by}
@@ -17,15 +17,15 @@ tell_limits-requires c = c.requires.1
 
 pub apply-applied-requires : goal.apply-applied-requires
 apply-applied-requires c =
-    subst (λ (k : Config). IsFitting k (change.PatchDrive c.args.resize.patch)) (sym (ap (λ (l : Live). l.config) c.self.view_is)) c.requires
+    subst (λ (k : Config). IsFitting k (call.PatchDrive c.args.resize.patch)) (sym (ap (λ (l : Live). l.config) c.self.view_is)) c.requires
 
 pub invariant_of-self : goal.invariant_of-self
 invariant_of-self c =
     let resize = c.args.resize in
     let told : Live = record (live_of c.self.inside) { guest = c.tell_sectors.new.guest } in
-    applied_stays (record (live_of c.self.inside) { guest = c.tell_limits.new.guest }) (change.PatchDrive resize.patch) c.apply-applied.result
+    applied_stays (record (live_of c.self.inside) { guest = c.tell_limits.new.guest }) (call.PatchDrive resize.patch) c.apply-applied.result
     c.apply-applied.new.self c.apply-applied.ensures.ok c.apply-applied.ensures.err
-    (subst (λ (k : Config). IsFitting k (change.PatchDrive resize.patch)) (sym (ap (λ (l : Live). l.config) c.self.view_is)) c.requires) tt
+    (subst (λ (k : Config). IsFitting k (call.PatchDrive resize.patch)) (sym (ap (λ (l : Live). l.config) c.self.view_is)) c.requires) tt
     (relimits_stay told limits_told limits_given resize.patch.rate_limiter resize.device c.tell_limits.new.guest c.tell_limits.ensures
     (tells_stay (live_of c.self.inside) resize.device (sectors_change resize.sectors) (shows_by (sectors_change resize.sectors))
     c.tell_sectors.new.guest (c.tell_sectors.ensures.fits, refl) c.tell_sectors.ensures.resizes c.self.invariant))

@@ -6,22 +6,22 @@ use Rattle.monitor_machine.proofs.Deciding.{comes_early, decided_is, has_guest, 
 use Rattle.monitor_machine.proofs.Planning.{refused_plan}
 use Rattle.monitor_machine.proofs.machine.LiveMachine.task_of_call.Goals as goal
 
-pub task_of_change-requires : goal.task_of_change-requires
-task_of_change-requires g c =
+pub task_of_allowed-requires : goal.task_of_allowed-requires
+task_of_allowed-requires g c =
     let live = c.args.self.now in
     let asks = sym c.decided.ensures.is ∙ c.in-Ok.is in record {
       fits =
-          decided_fits (phase_of live) live.config live.ids c.decided.ensures.taken c.requires.0 c.args.call c.in-Ok.change c.requires.1
+          decided_fits (phase_of live) live.config live.ids c.decided.ensures.taken c.requires.0 c.args.call c.in-Ok.call c.requires.1
           asks;
-      early = comes_early live.guest live.paused live.config live.ids c.args.call c.in-Ok.change asks;
-      guest = has_guest live.guest live.paused live.config live.ids c.args.call c.in-Ok.change asks;
-      two = two_files (phase_of live) live.config live.ids c.args.call c.in-Ok.change asks c.requires.0 c.requires.1;
-      number = has_number live.guest live.paused live.config live.ids c.args.call c.in-Ok.change asks;
+      early = comes_early live.guest live.paused live.config live.ids c.args.call c.in-Ok.call asks;
+      guest = has_guest live.guest live.paused live.config live.ids c.args.call c.in-Ok.call asks;
+      two = two_files (phase_of live) live.config live.ids c.args.call c.in-Ok.call asks c.requires.0 c.requires.1;
+      number = has_number live.guest live.paused live.config live.ids c.args.call c.in-Ok.call asks;
     }
 
 pub returns-in-Ok-clause-task : goal.returns-in-Ok-clause-task
 returns-in-Ok-clause-task g c =
-    let task = c.task_of_change.ensures.task in (
+    let task = c.task_of_allowed.ensures.task in (
       task.0,
       λ told m is request asks.
           task.1 told m is (next.Request request)
@@ -31,8 +31,8 @@ returns-in-Ok-clause-task g c =
 pub returns-in-Ok-clause-uncalled : goal.returns-in-Ok-clause-uncalled
 returns-in-Ok-clause-uncalled g c = λ never.
     let live = c.args.self.now in
-    c.task_of_change.ensures.uncalled
-    (no_files (phase_of live) live.config live.ids c.args.call c.in-Ok.change (sym c.decided.ensures.is ∙ c.in-Ok.is) never)
+    c.task_of_allowed.ensures.uncalled
+    (no_files (phase_of live) live.config live.ids c.args.call c.in-Ok.call (sym c.decided.ensures.is ∙ c.in-Ok.is) never)
 
 pub returns-in-Err-clause-task : goal.returns-in-Err-clause-task
 returns-in-Err-clause-task g c = (
