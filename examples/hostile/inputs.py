@@ -111,6 +111,7 @@ CALLS = [
     ("PUT", "/balloon", {"amount_mib": 1, "deflate_on_oom": True, "stats_polling_interval_s": 1}),
     ("PUT", "/balloon", {"amount_mib": 1, "deflate_on_oom": False}),
     ("PATCH", "/balloon", {"amount_mib": 2}), ("PATCH", "/balloon/statistics", {"stats_polling_interval_s": 2}),
+    ("PUT", "/entropy", {"rate_limiter": LIMITER}), ("PUT", "/entropy", {}),
     ("PUT", "/mmds/config", {"network_interfaces": ["n"], "version": "V2", "ipv4_address": "169.254.169.254"}),
     ("GET", "/balloon", None), ("GET", "/balloon/statistics", None),
 ]
@@ -118,7 +119,7 @@ METHODS = ["GET", "PUT", "PATCH", "POST", "DELETE", "HEAD", "get", "FOO", "P\x01
 PATHS = ["/", "/version", "/vm/config", "/drives/", "/drives/d/", "/drives/" + "d" * 65, "/drives/d?x", "//", "/boot-source/", "*",
          "http://a/", "", "/snapshot/create", "/vsock", "/mmds/config", "/network-interfaces/n", "/entropy"]
 REPLIES = ["ok", "fail", "none", "now 0", "now 18446744073709551615", "part " + "5a" * 64, "part " + "00" * 63, "part", "frame 14",
-           "new 1", "bytes 1 61", "ended 1", "dialled 1"]
+           "new 1", "bytes 1 61", "ended 1", "dialled 1", "word 0123456789abcdef", "word 0"]
 # A guest of seven instructions that goes round and counts in a word of one of 32 pages after the other: auipc t0, 16; addi t2, t2, 1;
 # andi t3, t2, 31; slli t3, t3, 12; add t3, t3, t0; sd t2, 8(t3); jal.
 IMAGE = "970201009383130013fef301131ece00330e5e0023347e006ff05ffe"

@@ -10,6 +10,8 @@ use Rattle.flat_guest.specs.Guest.{Guest, unwritten}
 use Rattle.flat_guest.specs.Same.{AreAlike}
 use Rattle.snap_state.specs.declared.copy.StateCopy.{StateCopy}
 use Rattle.snap_state.specs.Valid.{is_source}
+use Rattle.snap_state.specs.Sections.{entropy_in}
+use Rattle.snap_state.proofs.Sectioned.{entropy_told}
 use Rattle.flat_snapshot.specs.Carried.{carried_config, carried_guest}
 use Rattle.flat_snapshot.specs.Copies.{IsCopyOf, configuration_of, source_of}
 use Rattle.flat_snapshot.proofs.Copied.{same_copy}
@@ -38,7 +40,7 @@ module _ (m k : Machine) (had : Guest) (it : SnapshotCreate) (load : SnapshotLoa
   abbrev saver : Machine
   saver = created m (reset_guest had) it.files (parent_in m it) copied
 
-  config_is : (as_loaded saver k load).config ≡ carried_config load.track_dirty_pages (configuration_of m.config)
+  config_is : (as_loaded saver k load).config ≡ carried_config load.track_dirty_pages (configuration_of m.config) m.config.entropy
   config_is =
       let own = (guest_ready m had ready there).ready.configured in
       λ i. record {
@@ -48,12 +50,15 @@ module _ (m k : Machine) (had : Guest) (it : SnapshotCreate) (load : SnapshotLoa
         vsock = m.config.vsock;
         machine = record m.config.machine { track_dirty_pages = load.track_dirty_pages };
         balloon = m.config.balloon;
+        entropy = m.config.entropy;
         mmds = m.config.mmds;
         configured = is_set i;
       }
 
-  copied_config : carried_config load.track_dirty_pages copied.configuration ≡ carried_config load.track_dirty_pages (configuration_of m.config)
-  copied_config = ap (λ (s : StateCopy). carried_config load.track_dirty_pages s.configuration) of.3
+  copied_config : carried_config load.track_dirty_pages copied.configuration (entropy_in copied.sections) ≡ carried_config load.track_dirty_pages (configuration_of m.config) m.config.entropy
+  copied_config =
+      ap (λ (s : StateCopy). carried_config load.track_dirty_pages s.configuration (entropy_in s.sections)) of.3
+      ∙ ap (carried_config load.track_dirty_pages (configuration_of m.config)) (entropy_told (reset_guest had).ports m.config.entropy)
 
   abbrev target : Machine
   target = carried k load (record { identity = next_identity m; copy = copied; bytes = had.memory.bytes })

@@ -18,6 +18,7 @@ use Rattle.api_calls.specs.Fields.{form_of}
 use Rattle.api_calls.specs.Call.{◌>>=◌, json_of, object_in, object_of, unless, made, asked, call_of}
 use Rattle.api_calls.specs.Routes.{Target, target_of}
 use Rattle.api_calls.proofs.Drives.{drive_is, patch_is}
+use Rattle.api_calls.proofs.Entropies.{entropy_is}
 use Rattle.api_calls.proofs.Interfaces.{interface_is, interface_patch_is}
 use Rattle.api_calls.proofs.Metadata.{mmds_is}
 use Rattle.api_calls.proofs.Ranges.{IsWithin, balloon_is, machine_is, machine_patch_is, source_is, statistics_is, vsock_is}
@@ -45,6 +46,7 @@ IsAsked (call.PatchMachineConfig patch) =
 IsAsked (call.PutBalloon balloon) = balloon.stats_polling_interval_s < 2 ^ 16
 IsAsked (call.PatchBalloon patch) = ⊤
 IsAsked (call.PatchStatistics patch) = patch.stats_polling_interval_s < 2 ^ 16
+IsAsked (call.PutEntropy entropy) = holds is_limiter entropy.rate_limiter ≡ true
 IsAsked (call.PutMmdsConfig mmds) = (are_ids mmds.network_interfaces ≡ true) × (is_address mmds.ipv4_address ≡ true)
 IsAsked (call.PutMetadata d) = ⊤
 IsAsked (call.PatchMetadata d) = ⊤
@@ -68,6 +70,7 @@ made_is body.MachinePatch named ms none = machine_patch_is ms none
 made_is body.Balloon named ms none = balloon_is ms none
 made_is body.BalloonPatch named ms none = tt
 made_is body.StatisticsPatch named ms none = statistics_is ms none
+made_is body.Entropy named ms none = entropy_is ms none
 made_is body.MmdsConfig named ms none = mmds_is ms none
 made_is body.Metadata named ms none = tt
 made_is body.MetadataPatch named ms none = tt

@@ -3,6 +3,7 @@ pub mod Snapshots
 pub mod Ranges
 pub mod Limits
 pub mod Drives
+pub mod Entropies
 pub mod Interfaces
 pub mod Metadata
 pub mod Asked

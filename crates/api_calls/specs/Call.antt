@@ -176,6 +176,7 @@ made body.BalloonPatch d = call.PatchBalloon (record {
 made body.StatisticsPatch d = call.PatchStatistics (record {
   stats_polling_interval_s = number_or_zero (number_at (codes "stats_polling_interval_s") d);
 })
+made body.Entropy d = call.PutEntropy (record { rate_limiter = limiter_at (codes "rate_limiter") d })
 made body.MmdsConfig d = call.PutMmdsConfig (record {
   network_interfaces = unwrap_or (texts_at (codes "network_interfaces") d) [];
   version = version_of d;

@@ -160,6 +160,13 @@ balloon_patch = flat (needed (codes "amount_mib") any_number ∷ []) free
 abbrev pub statistics_patch : Form
 statistics_patch = flat (needed (codes "stats_polling_interval_s") seconds ∷ []) free
 
+-- PUT /entropy
+abbrev pub entropy : Form
+entropy = record {
+  levels = outer (optional (codes "rate_limiter") group ∷ []) ∷ limiter_levels (codes "rate_limiter");
+  together = free;
+}
+
 -- PUT /mmds/config
 abbrev pub mmds_config : Form
 mmds_config = flat (
@@ -227,6 +234,7 @@ form_of body.MachinePatch named = machine_patch
 form_of body.Balloon named = balloon
 form_of body.BalloonPatch named = balloon_patch
 form_of body.StatisticsPatch named = statistics_patch
+form_of body.Entropy named = entropy
 form_of body.MmdsConfig named = mmds_config
 form_of body.Metadata named = metadata
 form_of body.MetadataPatch named = metadata

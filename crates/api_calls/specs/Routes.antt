@@ -39,6 +39,7 @@ routes =
     ∷ route (codes "PUT") (codes "/balloon") (endpoint.Send body.Balloon)
     ∷ route (codes "PATCH") (codes "/balloon") (endpoint.Send body.BalloonPatch)
     ∷ route (codes "PATCH") (codes "/balloon/statistics") (endpoint.Send body.StatisticsPatch)
+    ∷ route (codes "PUT") (codes "/entropy") (endpoint.Send body.Entropy)
     ∷ route (codes "PUT") (codes "/mmds/config") (endpoint.Send body.MmdsConfig)
     ∷ route (codes "PUT") (codes "/mmds") (endpoint.Send body.Metadata)
     ∷ route (codes "PATCH") (codes "/mmds") (endpoint.Send body.MetadataPatch)

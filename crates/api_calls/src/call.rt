@@ -2,6 +2,7 @@
 ghost use Rattle.std.specs.Prelude.{◌≡◌};
 
 use crate::balloon::{Balloon, BalloonPatch, StatisticsPatch};
+use crate::entropy::Entropy;
 use crate::interface::{Interface, InterfacePatch};
 use crate::limiter::Limiter;
 use crate::mmds::MmdsConfig;
@@ -173,6 +174,8 @@ pub enum ApiCall {
     PatchBalloon(BalloonPatch),
     /// PATCH /balloon/statistics
     PatchStatistics(StatisticsPatch),
+    /// PUT /entropy
+    PutEntropy(Entropy),
     /// PUT /mmds/config
     PutMmdsConfig(MmdsConfig),
     /// PUT /mmds: an object, whose numbers may be any.

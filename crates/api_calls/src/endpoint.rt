@@ -15,6 +15,7 @@ pub enum Body {
     Balloon,
     BalloonPatch,
     StatisticsPatch,
+    Entropy,
     MmdsConfig,
     Metadata,
     MetadataPatch,

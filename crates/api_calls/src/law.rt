@@ -12,6 +12,7 @@ ghost use Rattle.api_calls.specs.declared.call.MachineConfig.{MachineConfig};
 ghost use Rattle.api_calls.specs.declared.call.MachinePatch.{MachinePatch};
 ghost use Rattle.api_calls.specs.declared.call.SnapshotCreate.{SnapshotCreate};
 ghost use Rattle.api_calls.specs.declared.call.SnapshotLoad.{SnapshotLoad};
+ghost use Rattle.api_calls.specs.declared.entropy.Entropy.{Entropy};
 ghost use Rattle.api_calls.specs.declared.interface.Interface.{Interface};
 ghost use Rattle.api_calls.specs.declared.interface.InterfacePatch.{InterfacePatch};
 ghost use Rattle.api_calls.specs.declared.mmds.MmdsConfig.{MmdsConfig};
@@ -51,7 +52,7 @@ pub fn interfaces_are_named()
         is_id patch.iface_id ≡ true }
 {}
 
-/// Limits of a drive or of an interface have buckets of fewer than 2^48 tokens, of a refill time below 2^32 milliseconds,
+/// Limits of a drive, of an interface or of the entropy device have buckets of fewer than 2^48 tokens, of a refill time below 2^32 milliseconds,
 /// and of a burst below 2^48.
 pub fn limits_are_bounded()
     ensures drive { (r : Request) (drive : Drive) → call_of r ≡ Ok (call.PutDrive drive) →
@@ -62,6 +63,8 @@ pub fn limits_are_bounded()
         (holds is_limiter interface.rx_rate_limiter ≡ true) × (holds is_limiter interface.tx_rate_limiter ≡ true) }
     ensures interface_patch { (r : Request) (patch : InterfacePatch) → call_of r ≡ Ok (call.PatchInterface patch) →
         (holds is_limiter patch.rx_rate_limiter ≡ true) × (holds is_limiter patch.tx_rate_limiter ≡ true) }
+    ensures entropy { (r : Request) (entropy : Entropy) → call_of r ≡ Ok (call.PutEntropy entropy) →
+        holds is_limiter entropy.rate_limiter ≡ true }
 {}
 
 /// The CID of a vsock device is from 3 to 2^32 - 2, and its socket has a name of 1 to 4,095 bytes without a NUL.

@@ -11,6 +11,7 @@ mod addresses;
 mod balloon;
 mod call;
 mod endpoint;
+mod entropy;
 mod id_list;
 mod interface;
 mod law;
@@ -26,6 +27,7 @@ pub use call::{
     SnapshotCreate, SnapshotFiles, SnapshotLoad, SnapshotType, VmState,
 };
 pub use endpoint::{Body, Endpoint};
+pub use entropy::Entropy;
 pub use id_list::IdList;
 pub use interface::{Interface, InterfacePatch};
 pub use law::{

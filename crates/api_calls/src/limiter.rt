@@ -11,7 +11,7 @@ pub struct BucketConfig {
     pub one_time_burst: Option<u64>,
 }
 
-/// The limits of a drive, or of a direction of a network interface.
+/// The limits of a drive, of a direction of a network interface, or of an entropy device.
 #[derive(Clone, Copy, Drop)]
 pub struct Limiter {
     /// Of the bytes that pass.

@@ -36,6 +36,9 @@ mod machine_config;
 // PUT and PATCH /balloon, PATCH /balloon/statistics,
 mod balloon;
 
+// PUT /entropy,
+mod entropy;
+
 // PUT /mmds/config,
 mod mmds;
 

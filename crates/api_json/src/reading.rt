@@ -11,6 +11,7 @@ use crate::actions::ACTION;
 use crate::balloon::{self, BALLOON, BALLOON_PATCH, STATISTICS_PATCH};
 use crate::body::object_of;
 use crate::boot_source::{self, BOOT_SOURCE};
+use crate::entropy::{self, ENTROPY};
 use crate::error::ReadError;
 use crate::levels::{Form, refusal};
 use crate::machine_config::{self, MACHINE_CONFIG, MACHINE_PATCH};
@@ -43,6 +44,7 @@ fn form_of(body: Body, id: &[u8]) -> Form<'_>
         Body::Balloon => BALLOON,
         Body::BalloonPatch => BALLOON_PATCH,
         Body::StatisticsPatch => STATISTICS_PATCH,
+        Body::Entropy => ENTROPY,
         Body::MmdsConfig => MMDS_CONFIG,
         Body::Metadata | Body::MetadataPatch => METADATA,
         Body::Action => ACTION,
@@ -67,6 +69,7 @@ fn make(alloc: Global, body: Body, object: Value) -> Result<ApiCall, AllocError>
         Body::Balloon => Ok(balloon::put(&object)),
         Body::BalloonPatch => Ok(balloon::patch(&object)),
         Body::StatisticsPatch => Ok(balloon::patch_statistics(&object)),
+        Body::Entropy => Ok(entropy::put(&object)),
         Body::MmdsConfig => mmds::put(alloc, &object),
         Body::Metadata => Ok(ApiCall::PutMetadata(Tree::of_value(object))),
         Body::MetadataPatch => Ok(ApiCall::PatchMetadata(Tree::of_value(object))),

@@ -34,7 +34,7 @@ pub struct Target<'p> {
     pub id: &'p [u8],
 }
 
-static ROUTES: [Route; 25] = [
+static ROUTES: [Route; 26] = [
     Route {
         pattern: Pattern::Fixed("/boot-source"),
         method: "PUT",
@@ -89,6 +89,11 @@ static ROUTES: [Route; 25] = [
         pattern: Pattern::Fixed("/balloon/statistics"),
         method: "PATCH",
         endpoint: Endpoint::Send(Body::StatisticsPatch),
+    },
+    Route {
+        pattern: Pattern::Fixed("/entropy"),
+        method: "PUT",
+        endpoint: Endpoint::Send(Body::Entropy),
     },
     Route {
         pattern: Pattern::Fixed("/mmds/config"),

@@ -91,6 +91,9 @@ interface_patch_rows config patch = (not (has_interface config.interfaces patch.
 abbrev pub vsock_rows : Config → Rows
 vsock_rows config = (is_none config.vsock && has_no_room config, refusal.TooManyDevices) ∷ []
 
+abbrev pub entropy_rows : Config → Rows
+entropy_rows config = (is_none config.entropy && has_no_room config, refusal.TooManyDevices) ∷ []
+
 -- a guest gives what it has at most
 abbrev pub is_beyond : ℕ → ℕ → Bool
 is_beyond mib amount = nat_lt mib amount
@@ -272,6 +275,14 @@ row (call.PatchStatistics patch) = record {
   reads = false;
   writes = false;
   leaves = λ config. record config { balloon = with_interval patch config.balloon };
+}
+-- PUT /entropy
+row (call.PutEntropy entropy) = record {
+  when = BeforeBoot;
+  refusals = λ p config ids. entropy_rows config;
+  reads = false;
+  writes = false;
+  leaves = λ config. record config { entropy = Some entropy; configured = true };
 }
 -- PUT /mmds/config
 row (call.PutMmdsConfig mmds) = record {

@@ -40,6 +40,10 @@ pub fn apply(config: &mut Config, call: ApiCall) -> Result<(), AllocError>
         }
         ApiCall::PatchBalloon(patch) => config.balloon = with_amount(patch, config.balloon),
         ApiCall::PatchStatistics(patch) => config.balloon = with_interval(patch, config.balloon),
+        ApiCall::PutEntropy(entropy) => {
+            config.entropy = Some(entropy);
+            config.configured = true;
+        }
         ApiCall::PutMmdsConfig(mmds) => {
             config.mmds = Some(mmds);
             config.configured = true;

@@ -6,7 +6,7 @@ use crate::actions::start_refusal;
 use crate::ids::Ids;
 use crate::machine_config::{memory_refusal, patch_refusal};
 use crate::snapshot::{create_refusal, load_refusal};
-use crate::{balloon, drives, interfaces, mmds, vsock};
+use crate::{balloon, drives, entropy, interfaces, mmds, vsock};
 use api_calls::{ApiCall, Part};
 use refusals::Refusal;
 use vm_config::{Config, Phase};
@@ -44,6 +44,7 @@ fn when_allowed(call: &ApiCall) -> When
         | ApiCall::PutMachineConfig(_)
         | ApiCall::PatchMachineConfig(_)
         | ApiCall::PutBalloon(_)
+        | ApiCall::PutEntropy(_)
         | ApiCall::PutMmdsConfig(_)
         | ApiCall::InstanceStart
         | ApiCall::LoadSnapshot(_) => When::BeforeBoot,
@@ -82,6 +83,7 @@ fn own_refusal(phase: Phase, config: &Config, ids: &Ids, call: &ApiCall) -> Opti
         ApiCall::PutBalloon(balloon) => balloon::put_refusal(config, balloon),
         ApiCall::PatchBalloon(patch) => balloon::patch_refusal(config, patch),
         ApiCall::PatchStatistics(patch) => balloon::statistics_refusal(config, patch),
+        ApiCall::PutEntropy(_) => entropy::put_refusal(config),
         ApiCall::PutMmdsConfig(mmds) => mmds::put_refusal(config, mmds),
         ApiCall::Get(part) => balloon::told_refusal(config, *part),
         ApiCall::InstanceStart => start_refusal(config),

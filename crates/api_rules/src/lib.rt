@@ -15,6 +15,9 @@ mod drives;
 // PUT and PATCH /network-interfaces/{id},
 mod interfaces;
 
+// PUT /entropy,
+mod entropy;
+
 // PUT /vsock,
 mod vsock;
 

@@ -36,6 +36,7 @@ fn main(rt: HostRuntime) -> ExitCode {
                 disk: DiskFiles::new(&rt),
                 link: LinkSockets::new(&rt, &bell),
                 vsock: VsockSockets::new(&rt, &bell),
+                guest_words: RandomWords::new(&rt),
                 clock: SystemClock::new(&rt, &bell),
             },
             trace: TraceFile::new(&rt),
@@ -44,7 +45,7 @@ fn main(rt: HostRuntime) -> ExitCode {
         listener: SocketListener::new(&rt, &bell),
     };
     let words = words(&rt).map_err(|e| why(&e));
-    let exit = firecracker_main::<_, _, _, _, _, _, _, _, SocketConn<'_, _>, _, _, _>(
+    let exit = firecracker_main::<_, _, _, _, _, _, _, _, _, SocketConn<'_, _>, _, _, _>(
         &rt,
         rt.alloc(),
         words,

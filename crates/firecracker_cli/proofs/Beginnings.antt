@@ -4,7 +4,8 @@ use Rattle.vm_types.specs.declared.exit.Exit.{Exit}
 use Rattle.vm_types.specs.declared.exit.Object.{Object}
 use Rattle.vm_types.specs.declared.exit.Object.TheVariants as object
 use Rattle.vm_outside.specs.Known.{FilesKnown, Health, Tells}
-use Rattle.serve_host.specs.Drawing.{IsDrawn, WordsKnown}
+use Rattle.serve_host.specs.Drawing.{WordsKnown}
+use Rattle.vm_host.specs.Giving.{IsDrawn}
 use Rattle.serve_host.specs.Listening.{ListenerKnown}
 use Rattle.serve_host.specs.Tracing.{TraceKnown}
 use Rattle.script_text.specs.declared.item.Item.{Item}

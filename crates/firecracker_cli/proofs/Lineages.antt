@@ -1,7 +1,8 @@
 -- Serving since its lineage was drawn, as serving since its beginning.
 use Rattle.std.proofs.Common.{◌≡◌, ℕ, refl, ◌∙◌, List, [], ◌∷◌, ◌++◌, append_assoc}
 use Rattle.vm_outside.specs.Known.{Tells}
-use Rattle.serve_host.specs.Drawing.{IsDrawn, WordsKnown}
+use Rattle.serve_host.specs.Drawing.{WordsKnown}
+use Rattle.vm_host.specs.Giving.{IsDrawn}
 use Rattle.script_text.specs.declared.item.Item.{Item}
 use Rattle.script_text.specs.declared.item.Item.TheVariants as item
 use Rattle.command_line.specs.Commands.{ServeWords}

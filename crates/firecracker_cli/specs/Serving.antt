@@ -9,7 +9,8 @@ use Rattle.vm_host.specs.Framing.{LinkKnown}
 use Rattle.vm_host.specs.Hosting.{VsockKnown}
 use Rattle.vm_host.specs.Storing.{DiskKnown}
 use Rattle.vm_host.specs.Telling.{ClockKnown}
-use Rattle.serve_host.specs.Drawing.{IsDrawn, WordsKnown}
+use Rattle.serve_host.specs.Drawing.{WordsKnown}
+use Rattle.vm_host.specs.Giving.{GuestWordsKnown, IsDrawn}
 use Rattle.serve_host.specs.Listening.{Ended, ListenerKnown}
 use Rattle.command_line.specs.Commands.{ServeWords}
 use Rattle.serve_host.specs.Tracing.{TraceKnown}
@@ -37,11 +38,11 @@ abbrev pub serve_known : Hosts → WordsKnown → ListenerKnown → ServeKnown
 serve_known hosts words listener = record { hosts = hosts; words = words; listener = listener }
 
 -- of these objects, by what each of their types tells
-abbrev pub serve_known_of : {T K C D L V F W M : Type 0} → (T → TraceKnown) → (K → SinkKnown) → (C → ClockKnown) → (D → DiskKnown)
-    → (L → LinkKnown) → (V → VsockKnown) → (F → FilesKnown) → (W → WordsKnown) → (M → ListenerKnown) → K → F
-    → ServeOutside D L V C W M T → ServeKnown
-serve_known_of of_trace of_sink of_clock of_disk of_link of_vsock of_files of_words of_listener sink files with =
-    serve_known (hosts_of (traced_known of_trace of_clock of_disk of_link of_vsock) of_sink of_files with.turns sink files) (of_words with.words)
+abbrev pub serve_known_of : {T K C D L V G F W M : Type 0} → (T → TraceKnown) → (K → SinkKnown) → (C → ClockKnown) → (D → DiskKnown)
+    → (L → LinkKnown) → (V → VsockKnown) → (G → GuestWordsKnown) → (F → FilesKnown) → (W → WordsKnown) → (M → ListenerKnown) → K → F
+    → ServeOutside D L V G C W M T → ServeKnown
+serve_known_of of_trace of_sink of_clock of_disk of_link of_vsock of_guest of_files of_words of_listener sink files with =
+    serve_known (hosts_of (traced_known of_trace of_clock of_disk of_link of_vsock of_guest) of_sink of_files with.turns sink files) (of_words with.words)
     (of_listener with.listener)
 
 -- the trace, the sink, the files and the listener tell their content; what is said of the words holds where these tell theirs

@@ -20,7 +20,7 @@ use serve_host::{Conn, Listener, Trace, Words};
 use std::alloc::Global;
 use std::sync::Wait;
 use std::thread::Threads;
-use vm_host::{Clock, Disk, Link, VsockHost};
+use vm_host::{Clock, Disk, GuestWords, Link, VsockHost};
 use vm_outside::{Failed, Files, Sink};
 use vm_types::{Exit, Object, TextList};
 
@@ -101,6 +101,7 @@ fn serve_on<
     D: Disk + Send,
     L: Link + Send,
     V: VsockHost + Send,
+    G: GuestWords + Send,
     C: Clock + Send,
     N: Conn,
     F: Files,
@@ -117,20 +118,20 @@ fn serve_on<
     mut monitor: Monitor,
     files: &mut F,
     sink: &mut K,
-    with: &mut ServeOutside<D, L, V, C, W, M, T>,
+    with: &mut ServeOutside<D, L, V, G, C, W, M, T>,
 ) -> Exit
     ensures so_far { ServersTell
-        (serve_known_of T.known K.known C.known D.known L.known V.known F.known W.known M.known sink.old files.old with.old) →
+        (serve_known_of T.known K.known C.known D.known L.known V.known G.known F.known W.known M.known sink.old files.old with.old) →
         ((known : FilesKnown) → IsMonitor monitor known (new_machine (words_said words.entry).id known.saved known.calls)) →
         ServedSoFar result (words_said words.entry)
-        (serve_known_of T.known K.known C.known D.known L.known V.known F.known W.known M.known sink.old files.old with.old)
-        (serve_known_of T.known K.known C.known D.known L.known V.known F.known W.known M.known sink.new files.new with.new) }
+        (serve_known_of T.known K.known C.known D.known L.known V.known G.known F.known W.known M.known sink.old files.old with.old)
+        (serve_known_of T.known K.known C.known D.known L.known V.known G.known F.known W.known M.known sink.new files.new with.new) }
     ensures told { ServeCause result
-        (serve_known_of T.known K.known C.known D.known L.known V.known F.known W.known M.known sink.old files.old with.old)
-        (serve_known_of T.known K.known C.known D.known L.known V.known F.known W.known M.known sink.new files.new with.new) }
+        (serve_known_of T.known K.known C.known D.known L.known V.known G.known F.known W.known M.known sink.old files.old with.old)
+        (serve_known_of T.known K.known C.known D.known L.known V.known G.known F.known W.known M.known sink.new files.new with.new) }
     ensures lasts { ServersLast
-        (serve_known_of T.known K.known C.known D.known L.known V.known F.known W.known M.known sink.old files.old with.old)
-        (serve_known_of T.known K.known C.known D.known L.known V.known F.known W.known M.known sink.new files.new with.new) }
+        (serve_known_of T.known K.known C.known D.known L.known V.known G.known F.known W.known M.known sink.old files.old with.old)
+        (serve_known_of T.known K.known C.known D.known L.known V.known G.known F.known W.known M.known sink.new files.new with.new) }
 {
     if let Err(object) = open(words, &mut with.listener, &mut with.turns.trace) {
         return Exit::Fault(object);
@@ -156,6 +157,7 @@ fn run_serve<
     D: Disk + Send,
     L: Link + Send,
     V: VsockHost + Send,
+    G: GuestWords + Send,
     C: Clock + Send,
     N: Conn,
     F: Files,
@@ -171,19 +173,19 @@ fn run_serve<
     steps: u32,
     files: &mut F,
     sink: &mut K,
-    with: &mut ServeOutside<D, L, V, C, W, M, T>,
+    with: &mut ServeOutside<D, L, V, G, C, W, M, T>,
 ) -> Exit
     ensures so_far { ServersTell
-        (serve_known_of T.known K.known C.known D.known L.known V.known F.known W.known M.known sink.old files.old with.old) →
+        (serve_known_of T.known K.known C.known D.known L.known V.known G.known F.known W.known M.known sink.old files.old with.old) →
         ServedSoFar result (words_said words.entry)
-        (serve_known_of T.known K.known C.known D.known L.known V.known F.known W.known M.known sink.old files.old with.old)
-        (serve_known_of T.known K.known C.known D.known L.known V.known F.known W.known M.known sink.new files.new with.new) }
+        (serve_known_of T.known K.known C.known D.known L.known V.known G.known F.known W.known M.known sink.old files.old with.old)
+        (serve_known_of T.known K.known C.known D.known L.known V.known G.known F.known W.known M.known sink.new files.new with.new) }
     ensures told { ServeCause result
-        (serve_known_of T.known K.known C.known D.known L.known V.known F.known W.known M.known sink.old files.old with.old)
-        (serve_known_of T.known K.known C.known D.known L.known V.known F.known W.known M.known sink.new files.new with.new) }
+        (serve_known_of T.known K.known C.known D.known L.known V.known G.known F.known W.known M.known sink.old files.old with.old)
+        (serve_known_of T.known K.known C.known D.known L.known V.known G.known F.known W.known M.known sink.new files.new with.new) }
     ensures lasts { ServersLast
-        (serve_known_of T.known K.known C.known D.known L.known V.known F.known W.known M.known sink.old files.old with.old)
-        (serve_known_of T.known K.known C.known D.known L.known V.known F.known W.known M.known sink.new files.new with.new) }
+        (serve_known_of T.known K.known C.known D.known L.known V.known G.known F.known W.known M.known sink.old files.old with.old)
+        (serve_known_of T.known K.known C.known D.known L.known V.known G.known F.known W.known M.known sink.new files.new with.new) }
 {
     let Ok(id) = TextList::copy_of(alloc, words.id) else {
         return Exit::OutOfMemory;
@@ -203,6 +205,7 @@ pub fn serve_main<
     D: Disk + Send,
     L: Link + Send,
     V: VsockHost + Send,
+    G: GuestWords + Send,
     C: Clock + Send,
     N: Conn,
     F: Files,
@@ -218,11 +221,11 @@ pub fn serve_main<
     steps: u32,
     files: &mut F,
     sink: &mut K,
-    with: &mut ServeOutside<D, L, V, C, W, M, T>,
+    with: &mut ServeOutside<D, L, V, G, C, W, M, T>,
 ) -> Exit
     ensures { Serves result (words_said words.entry)
-        (serve_known_of T.known K.known C.known D.known L.known V.known F.known W.known M.known sink.old files.old with.old)
-        (serve_known_of T.known K.known C.known D.known L.known V.known F.known W.known M.known sink.new files.new with.new) }
+        (serve_known_of T.known K.known C.known D.known L.known V.known G.known F.known W.known M.known sink.old files.old with.old)
+        (serve_known_of T.known K.known C.known D.known L.known V.known G.known F.known W.known M.known sink.new files.new with.new) }
 {
     let exit = run_serve(rt, alloc, words, steps, files, sink, with);
     let last = exit;

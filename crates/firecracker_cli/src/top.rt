@@ -17,7 +17,7 @@ use serve_host::{Conn, Listener, Trace, Words};
 use std::alloc::Global;
 use std::sync::Wait;
 use std::thread::Threads;
-use vm_host::{Clock, Disk, Link, VsockHost};
+use vm_host::{Clock, Disk, GuestWords, Link, VsockHost};
 use vm_outside::{Files, Sink, Source};
 use vm_types::Exit;
 
@@ -35,6 +35,7 @@ pub fn firecracker_main<
     D: Disk + Send,
     L: Link + Send,
     V: VsockHost + Send,
+    G: GuestWords + Send,
     C: Clock + Send,
     W: Words,
     N: Conn,
@@ -46,7 +47,7 @@ pub fn firecracker_main<
     alloc: Global,
     words: Result<Vec<String>, NoWords>,
     out: &mut Outside<I, O, F>,
-    with: &mut ServeOutside<D, L, V, C, W, M, T>,
+    with: &mut ServeOutside<D, L, V, G, C, W, M, T>,
 ) -> Exit
     ensures replay { IfOk words (λ words. serve_words (map string_bytes words.items) ≡ None →
         generate_number (map string_bytes words.items) ≡ None → run_number (map string_bytes words.items) ≡ None →
@@ -55,8 +56,8 @@ pub fn firecracker_main<
         (all_known (I.known out.new.source) (O.known out.new.sink) (F.known out.new.files))) }
     ensures serve { IfOk words (λ words. (it : ServeWords) → serve_words (map string_bytes words.items) ≡ Some it →
         Serves result it
-        (serve_known_of T.known O.known C.known D.known L.known V.known F.known W.known M.known out.old.sink out.old.files with.old)
-        (serve_known_of T.known O.known C.known D.known L.known V.known F.known W.known M.known out.new.sink out.new.files with.new)) }
+        (serve_known_of T.known O.known C.known D.known L.known V.known G.known F.known W.known M.known out.old.sink out.old.files with.old)
+        (serve_known_of T.known O.known C.known D.known L.known V.known G.known F.known W.known M.known out.new.sink out.new.files with.new)) }
     ensures generate { IfOk words (λ words. (number : ℕ) → generate_number (map string_bytes words.items) ≡ Some number →
         Generated (map string_bytes words.items) result (O.known out.old.sink) (O.known out.new.sink)) }
     ensures alone { IfOk words (λ words. (number : ℕ) → generate_number (map string_bytes words.items) ≡ Some number →

@@ -9,6 +9,7 @@ use Rattle.std.proofs.lemmas.Slice.Eq.{bytes_eq-Decides}
 use Rattle.api_calls.specs.declared.balloon.Balloon.{Balloon}
 use Rattle.api_calls.specs.declared.call.Drive.{Drive}
 use Rattle.api_calls.specs.declared.call.DrivePatch.{DrivePatch}
+use Rattle.api_calls.specs.declared.entropy.Entropy.{Entropy}
 use Rattle.api_calls.specs.declared.interface.Interface.{Interface}
 use Rattle.api_calls.specs.declared.vsock.Vsock.{Vsock}
 use Rattle.api_calls.specs.declared.limiter.Limiter.{Limiter}
@@ -227,31 +228,31 @@ module _ (drive : Drive) (drives : List Drive) (is : AreDrives drives) (own : is
   roots_put false known = few_pushed known (is_root drive) refl
 
   -- where there is room for one more, if it is one
-  count_put : (interfaces : List Interface) (vsock : Option Vsock) (balloon : Option Balloon) (there : Bool) → has_room drives interfaces vsock balloon ≡ true
-      → (not there && nat_le 16 (count_in drives interfaces vsock balloon)) ≡ false
-      → count_in (if there then with_changed drive.drive_id (λ d. drive) drives else drives ++ drive ∷ []) interfaces vsock balloon ≤ 16
-  count_put interfaces vsock balloon true fits room =
+  count_put : (interfaces : List Interface) (vsock : Option Vsock) (balloon : Option Balloon) (entropy : Option Entropy) (there : Bool) → has_room drives interfaces vsock balloon entropy ≡ true
+      → (not there && nat_le 16 (count_in drives interfaces vsock balloon entropy)) ≡ false
+      → count_in (if there then with_changed drive.drive_id (λ d. drive) drives else drives ++ drive ∷ []) interfaces vsock balloon entropy ≤ 16
+  count_put interfaces vsock balloon entropy true fits room =
       let many = length-changed id_of_drive drive.drive_id (λ d. drive) drives in
-      omega (arith, many, leb-true (count_in drives interfaces vsock balloon) 16 fits)
-  count_put interfaces vsock balloon false fits room =
+      omega (arith, many, leb-true (count_in drives interfaces vsock balloon entropy) 16 fits)
+  count_put interfaces vsock balloon entropy false fits room =
       let many = length-append drives (drive ∷ []) in
-      let less = leb-false 16 (count_in drives interfaces vsock balloon) room in
+      let less = leb-false 16 (count_in drives interfaces vsock balloon entropy) room in
       omega (arith, many, less)
 
 -- where no other drive is the root drive, and there is room for one more
-pub put_told : (drive : Drive) (drives : List Drive) (interfaces : List Interface) (vsock : Option Vsock) (balloon : Option Balloon) → are_drives drives ≡ true
-    → has_room drives interfaces vsock balloon ≡ true → is_drive drive ≡ true
+pub put_told : (drive : Drive) (drives : List Drive) (interfaces : List Interface) (vsock : Option Vsock) (balloon : Option Balloon) (entropy : Option Entropy) → are_drives drives ≡ true
+    → has_room drives interfaces vsock balloon entropy ≡ true → is_drive drive ≡ true
     → (is_root drive && list_any (λ d. is_root d && not (is_named drive.drive_id d)) drives) ≡ false
-    → (not (has_drive drives drive.drive_id) && nat_le 16 (count_in drives interfaces vsock balloon)) ≡ false
-    → AreFitting (put_drive drives drive) interfaces vsock balloon
-put_told drive drives interfaces vsock balloon are fits own roots room =
+    → (not (has_drive drives drive.drive_id) && nat_le 16 (count_in drives interfaces vsock balloon entropy)) ≡ false
+    → AreFitting (put_drive drives drive) interfaces vsock balloon entropy
+put_told drive drives interfaces vsock balloon entropy are fits own roots room =
     let is = parts_of drives are in
-    let count = count_put drive drives is own roots interfaces vsock balloon (has_drive drives drive.drive_id) fits room in (
+    let count = count_put drive drives is own roots interfaces vsock balloon entropy (has_drive drives drive.drive_id) fits room in (
       are_all (put_drive drives drive) (record {
         few = omega (arith, count);
         each = each_put id_of_drive is_drive drives drive is.each own;
         apart = apart_put id_of_drive drives drive is.apart;
         root = roots_put drive drives is own roots (has_drive drives drive.drive_id) refl;
       }),
-      le-leb (count_in (put_drive drives drive) interfaces vsock balloon) 16 count,
+      le-leb (count_in (put_drive drives drive) interfaces vsock balloon entropy) 16 count,
     )

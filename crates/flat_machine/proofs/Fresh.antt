@@ -8,7 +8,7 @@ use Rattle.vm_types.specs.Saved.{Saved}
 use Rattle.api_calls.specs.declared.limiter.BucketConfig.{BucketConfig}
 use Rattle.api_calls.specs.declared.limiter.Limiter.{Limiter}
 use Rattle.vm_config.specs.declared.config.Config.{Config}
-use Rattle.vm_config.specs.Devices.{Configured, devices_of, of_balloon, of_drive, of_interface, of_vsock}
+use Rattle.vm_config.specs.Devices.{Configured, devices_of, of_balloon, of_drive, of_entropy, of_interface, of_vsock}
 use Rattle.token_bucket.specs.Rate.{rate_of}
 use Rattle.guest_devices.specs.Moments.{IsFreshNew, IsGivenChange, are_before, is_before, is_fresh, is_fresh_change}
 use Rattle.flat_machine.specs.Limits.{bucket_of, limits_of, limits_told, receives_told, transmits_told}
@@ -60,6 +60,7 @@ device_fresh saved (of_interface i) =
     (limits_fresh i.tx_rate_limiter)
 device_fresh saved (of_vsock v) = refl
 device_fresh saved (of_balloon b) = refl
+device_fresh saved (of_entropy e) = limits_fresh e.rate_limiter
 
 pub devices_fresh : (config : Config) (saved : Saved) → All IsFreshNew (devices_from config saved)
 devices_fresh config saved =

@@ -4,6 +4,7 @@ use Rattle.std.specs.List.{list_all}
 use Rattle.std.proofs.lemmas.Bool.{and_from, and_parts, le-leb, leb-false, leb-true}
 use Rattle.api_calls.specs.declared.balloon.Balloon.{Balloon}
 use Rattle.api_calls.specs.declared.call.Drive.{Drive}
+use Rattle.api_calls.specs.declared.entropy.Entropy.{Entropy}
 use Rattle.api_calls.specs.declared.interface.Interface.{Interface}
 use Rattle.api_calls.specs.declared.interface.InterfacePatch.{InterfacePatch}
 use Rattle.api_calls.specs.declared.vsock.Vsock.{Vsock}
@@ -43,27 +44,27 @@ many_patched patch interfaces = length-changed id_of_interface patch.iface_id (p
 -- ---- an interface that is put
 
 -- where there is room for one more, if it is one
-count_put : (drives : List Drive) (interface : Interface) (interfaces : List Interface) (vsock : Option Vsock) (balloon : Option Balloon) (there : Bool)
-    → has_room drives interfaces vsock balloon ≡ true → (not there && nat_le 16 (count_in drives interfaces vsock balloon)) ≡ false
-    → count_in drives (if there then changed_in id_of_interface interface.iface_id (λ i. interface) interfaces else interfaces ++ interface ∷ []) vsock balloon
+count_put : (drives : List Drive) (interface : Interface) (interfaces : List Interface) (vsock : Option Vsock) (balloon : Option Balloon) (entropy : Option Entropy) (there : Bool)
+    → has_room drives interfaces vsock balloon entropy ≡ true → (not there && nat_le 16 (count_in drives interfaces vsock balloon entropy)) ≡ false
+    → count_in drives (if there then changed_in id_of_interface interface.iface_id (λ i. interface) interfaces else interfaces ++ interface ∷ []) vsock balloon entropy
     ≤ 16
-count_put drives interface interfaces vsock balloon true fits room =
+count_put drives interface interfaces vsock balloon entropy true fits room =
     let many = length-changed id_of_interface interface.iface_id (λ i. interface) interfaces in
-    omega (arith, many, leb-true (count_in drives interfaces vsock balloon) 16 fits)
-count_put drives interface interfaces vsock balloon false fits room =
+    omega (arith, many, leb-true (count_in drives interfaces vsock balloon entropy) 16 fits)
+count_put drives interface interfaces vsock balloon entropy false fits room =
     let many = length-append interfaces (interface ∷ []) in
-    let less = leb-false 16 (count_in drives interfaces vsock balloon) room in
+    let less = leb-false 16 (count_in drives interfaces vsock balloon entropy) room in
     omega (arith, many, less)
 
-pub interface_put : (drives : List Drive) (interface : Interface) (interfaces : List Interface) (vsock : Option Vsock) (balloon : Option Balloon)
-    → are_interfaces interfaces ≡ true → has_room drives interfaces vsock balloon ≡ true → is_interface interface ≡ true
-    → (not (has_interface interfaces interface.iface_id) && nat_le 16 (count_in drives interfaces vsock balloon)) ≡ false
+pub interface_put : (drives : List Drive) (interface : Interface) (interfaces : List Interface) (vsock : Option Vsock) (balloon : Option Balloon) (entropy : Option Entropy)
+    → are_interfaces interfaces ≡ true → has_room drives interfaces vsock balloon entropy ≡ true → is_interface interface ≡ true
+    → (not (has_interface interfaces interface.iface_id) && nat_le 16 (count_in drives interfaces vsock balloon entropy)) ≡ false
     → (are_interfaces (put_interface interfaces interface) ≡ true)
-    × (has_room drives (put_interface interfaces interface) vsock balloon ≡ true)
-interface_put drives interface interfaces vsock balloon are fits own room =
+    × (has_room drives (put_interface interfaces interface) vsock balloon entropy ≡ true)
+interface_put drives interface interfaces vsock balloon entropy are fits own room =
     let parts = and_parts (list_all is_interface interfaces) (are_apart id_of_interface interfaces) are in
-    let count = count_put drives interface interfaces vsock balloon (has_interface interfaces interface.iface_id) fits room in (
+    let count = count_put drives interface interfaces vsock balloon entropy (has_interface interfaces interface.iface_id) fits room in (
       and_from _ _ (each_put id_of_interface is_interface interfaces interface parts.0 own)
           (apart_put id_of_interface interfaces interface parts.1),
-      le-leb (count_in drives (put_interface interfaces interface) vsock balloon) 16 count,
+      le-leb (count_in drives (put_interface interfaces interface) vsock balloon entropy) 16 count,
     )

@@ -182,6 +182,7 @@ module _ (m : Machine) (image : List ℕ) (ready : Ready m) (there : image_of m 
             mmds = source_there.mmds;
             machine = source_there.machine;
             balloon = source_there.balloon;
+            entropy = source_there.entropy;
             room = source_there.room;
           };
           shaped =
@@ -336,7 +337,7 @@ talks_ready bytes outcomes m n said ready (after, mid, talk, is) =
 
 -- the guest that runs is another one after events
 runs_ready : (m : Machine) (g h : Guest) → Ready m → IsReadyGuest m.config false g → m.paused ≡ false → IsSound h
-    → IsShaped (256 * m.config.machine.mem_size_mib) m.config.machine.vcpu_count (kinds_of (configuration_of m.config)) h → length h.devices ≡ length g.devices
+    → IsShaped (256 * m.config.machine.mem_size_mib) m.config.machine.vcpu_count (kinds_of (configuration_of m.config) m.config.entropy) h → length h.devices ≡ length g.devices
     → Ready (record m { guest = Some h })
 runs_ready m g h ready own runs sound shaped many = record {
   taken = ready.taken;

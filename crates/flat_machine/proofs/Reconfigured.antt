@@ -1,6 +1,6 @@
 -- A guest stays ready where what is configured has the same devices, and where a device of it is told of a change.
 use Rattle.std.proofs.Common.{◌≡◌, ◌+◌, ◌*◌, ℕ, Bool, true, refl, sym, ap, subst, ◌∙◌, List, [], ◌∷◌, ◌++◌, length, map, Option, Some, None, slice_get, arith}
-use Rattle.std.proofs.lemmas.List.{length-map}
+use Rattle.std.proofs.lemmas.List.{length-map, map-append}
 use Rattle.std.specs.FinMap.{get}
 use Rattle.vm_types.specs.Saved.{Saved}
 use Rattle.api_calls.specs.declared.balloon.Balloon.{Balloon}
@@ -10,6 +10,7 @@ use Rattle.api_calls.specs.declared.call.BootSource.{BootSource}
 use Rattle.api_calls.specs.declared.call.Drive.{Drive}
 use Rattle.api_calls.specs.declared.call.DrivePatch.{DrivePatch}
 use Rattle.api_calls.specs.declared.call.MachineConfig.{MachineConfig}
+use Rattle.api_calls.specs.declared.entropy.Entropy.{Entropy}
 use Rattle.api_calls.specs.declared.interface.Interface.{Interface}
 use Rattle.api_calls.specs.declared.interface.InterfacePatch.{InterfacePatch}
 use Rattle.api_calls.specs.declared.limiter.Limiter.{Limiter}
@@ -18,7 +19,7 @@ use Rattle.vm_config.specs.declared.config.Config.{Config}
 use Rattle.api_calls.specs.declared.call.ApiCall.TheVariants as call
 use Rattle.vm_config.specs.Changes.{with_amount, with_interval}
 use Rattle.api_rules.specs.Table.{changed}
-use Rattle.vm_config.specs.Devices.{Configured, balloon_count, balloon_devices, device_count, devices_in, devices_of, of_balloon, of_drive, of_interface, of_vsock, vsock_count, vsock_devices}
+use Rattle.vm_config.specs.Devices.{Configured, balloon_count, balloon_devices, device_count, devices_in, devices_of, entropy_count, entropy_devices, lone_devices, of_balloon, of_drive, of_entropy, of_interface, of_vsock, vsock_count}
 use Rattle.vm_config.specs.Drives.{in_order}
 use Rattle.vm_config.proofs.DeviceLemmas.{counted, length-ordered}
 use Rattle.port_table.specs.declared.kind.DeviceKind.{DeviceKind}
@@ -55,23 +56,28 @@ things_alike of kind is (a ∷ things) (b ∷ others) rest more many alike =
     ap (λ (k : DeviceKind). k ∷ map kind_configured (map of things ++ rest)) (is a ∙ sym (is b))
     ∙ ap (λ (l : List DeviceKind). kind_configured (of b) ∷ l) (things_alike of kind is things others rest more (omega (arith, many)) alike)
 
-kinds_alike : (drives others : List Drive) (interfaces links : List Interface) (vsock : Option Vsock) (balloon other : Option Balloon)
-    → length drives ≡ length others → length interfaces ≡ length links
+kinds_alike : (drives others : List Drive) (interfaces links : List Interface) (vsock : Option Vsock) (balloon : Option Balloon)
+    (entropy : Option Entropy) (other : Option Balloon) → length drives ≡ length others → length interfaces ≡ length links
     → map kind_configured (balloon_devices balloon) ≡ map kind_configured (balloon_devices other)
-    → map kind_configured (devices_in drives interfaces vsock balloon) ≡ map kind_configured (devices_in others links vsock other)
-kinds_alike drives others interfaces links vsock balloon other many linked alike =
+    → map kind_configured (devices_in drives interfaces vsock balloon entropy) ≡ map kind_configured (devices_in others links vsock other entropy)
+kinds_alike drives others interfaces links vsock balloon entropy other many linked alike =
     let own = length-ordered drives in
     let new = length-ordered others in
-    let before : List Configured = vsock_devices vsock ++ balloon_devices balloon in
-    let after : List Configured = vsock_devices vsock ++ balloon_devices other in
+    let before : List Configured = lone_devices vsock balloon entropy in
+    let after : List Configured = lone_devices vsock other entropy in
     things_alike of_drive numbers.Block (λ d. refl) (in_order drives) (in_order others) (map of_interface interfaces ++ before)
     (map of_interface links ++ after) (omega (arith, many, own, new))
     (things_alike of_interface numbers.Net (λ i. refl) interfaces links before after linked (by_vsock vsock))
   where
-    by_vsock : (v : Option Vsock)
-        → map kind_configured (vsock_devices v ++ balloon_devices balloon) ≡ map kind_configured (vsock_devices v ++ balloon_devices other)
-    by_vsock None = alike
-    by_vsock (Some v) = ap (λ (l : List DeviceKind). numbers.Vsock ∷ l) alike
+    behind : map kind_configured (balloon_devices balloon ++ entropy_devices entropy) ≡ map kind_configured (balloon_devices other ++ entropy_devices entropy)
+    behind =
+        map-append kind_configured (balloon_devices balloon) (entropy_devices entropy)
+        ∙ ap (λ (l : List DeviceKind). l ++ map kind_configured (entropy_devices entropy)) alike
+        ∙ sym (map-append kind_configured (balloon_devices other) (entropy_devices entropy))
+
+    by_vsock : (v : Option Vsock) → map kind_configured (lone_devices v balloon entropy) ≡ map kind_configured (lone_devices v other entropy)
+    by_vsock None = behind
+    by_vsock (Some v) = ap (λ (l : List DeviceKind). numbers.Vsock ∷ l) behind
 
 -- a balloon of another amount or interval is as good as it was
 amount_alike : (patch : BalloonPatch) (balloon : Option Balloon)
@@ -99,8 +105,9 @@ from_kinds (of_drive d ∷ others) saved = ap (λ (l : List DeviceKind). numbers
 from_kinds (of_interface i ∷ others) saved = ap (λ (l : List DeviceKind). numbers.Net ∷ l) (from_kinds others saved)
 from_kinds (of_vsock v ∷ others) saved = ap (λ (l : List DeviceKind). numbers.Vsock ∷ l) (from_kinds others saved)
 from_kinds (of_balloon b ∷ others) saved = ap (λ (l : List DeviceKind). numbers.Balloon ∷ l) (from_kinds others saved)
+from_kinds (of_entropy e ∷ others) saved = ap (λ (l : List DeviceKind). numbers.Entropy ∷ l) (from_kinds others saved)
 
-pub start_kinds : (config : Config) (saved : Saved) → kinds_at_start (devices_from config saved) ≡ kinds_of (configuration_of config)
+pub start_kinds : (config : Config) (saved : Saved) → kinds_at_start (devices_from config saved) ≡ kinds_of (configuration_of config) config.entropy
 start_kinds config saved = from_kinds (devices_of config) saved
 
 pub start_many : (config : Config) (saved : Saved) → length (devices_from config saved) ≡ device_count config
@@ -109,13 +116,13 @@ start_many config saved = length-map (devices_of config) (device_from saved) ∙
 -- ---- a guest of which something else is configured
 
 module _ (config after : Config) (paused : Bool) (taken : IsTaken after) (source : after.boot_source ≡ config.boot_source)
-    (machine : after.machine ≡ config.machine) (kinds : kinds_of (configuration_of config) ≡ kinds_of (configuration_of after))
+    (machine : after.machine ≡ config.machine) (kinds : kinds_of (configuration_of config) config.entropy ≡ kinds_of (configuration_of after) after.entropy)
     (count : device_count config ≡ device_count after) where
   same_shape : (g : Guest)
-      → IsShaped (256 * config.machine.mem_size_mib) config.machine.vcpu_count (kinds_of (configuration_of config)) g
-      → IsShaped (256 * after.machine.mem_size_mib) after.machine.vcpu_count (kinds_of (configuration_of after)) g
+      → IsShaped (256 * config.machine.mem_size_mib) config.machine.vcpu_count (kinds_of (configuration_of config) config.entropy) g
+      → IsShaped (256 * after.machine.mem_size_mib) after.machine.vcpu_count (kinds_of (configuration_of after) after.entropy) g
   same_shape g shaped =
-      subst (λ (m : MachineConfig). IsShaped (256 * m.mem_size_mib) m.vcpu_count (kinds_of (configuration_of after)) g) (sym machine)
+      subst (λ (m : MachineConfig). IsShaped (256 * m.mem_size_mib) m.vcpu_count (kinds_of (configuration_of after) after.entropy) g) (sym machine)
       (subst (λ (k : List DeviceKind). IsShaped (256 * config.machine.mem_size_mib) config.machine.vcpu_count k g) kinds shaped)
 
   reconfigured : (guest : Option Guest) → ReadyBy config paused guest → ReadyBy after paused guest
@@ -132,6 +139,7 @@ module _ (config after : Config) (paused : Bool) (taken : IsTaken after) (source
         mmds = taken.mmds;
         machine = taken.machine;
         balloon = taken.balloon;
+        entropy = taken.entropy;
         room = taken.room;
       };
       shaped = same_shape g is.ready.shaped;
@@ -146,8 +154,8 @@ pub drive_patched : (config : Config) (patch : DrivePatch) (paused : Bool) (gues
 drive_patched config patch paused guest taken is =
     let after : Config = changed config (call.PatchDrive patch) in
     let many = length-patched patch config.drives in
-    let kinds = kinds_alike config.drives after.drives config.interfaces config.interfaces config.vsock config.balloon config.balloon (sym many) refl refl in
-    let count = ap (λ (n : ℕ). n + length config.interfaces + vsock_count config.vsock + balloon_count config.balloon) (sym many) in
+    let kinds = kinds_alike config.drives after.drives config.interfaces config.interfaces config.vsock config.balloon config.entropy config.balloon (sym many) refl refl in
+    let count = ap (λ (n : ℕ). n + length config.interfaces + vsock_count config.vsock + balloon_count config.balloon + entropy_count config.entropy) (sym many) in
     reconfigured config after paused taken refl refl kinds count guest is
 
 pub interface_patched : (config : Config) (patch : InterfacePatch) (paused : Bool) (guest : Option Guest)
@@ -156,16 +164,16 @@ pub interface_patched : (config : Config) (patch : InterfacePatch) (paused : Boo
 interface_patched config patch paused guest taken is =
     let after : Config = changed config (call.PatchInterface patch) in
     let many = many_patched patch config.interfaces in
-    let kinds = kinds_alike config.drives config.drives config.interfaces after.interfaces config.vsock config.balloon config.balloon refl (sym many) refl in
-    let count = ap (λ (n : ℕ). length config.drives + n + vsock_count config.vsock + balloon_count config.balloon) (sym many) in
+    let kinds = kinds_alike config.drives config.drives config.interfaces after.interfaces config.vsock config.balloon config.entropy config.balloon refl (sym many) refl in
+    let count = ap (λ (n : ℕ). length config.drives + n + vsock_count config.vsock + balloon_count config.balloon + entropy_count config.entropy) (sym many) in
     reconfigured config after paused taken refl refl kinds count guest is
 
 pub amount_patched : (config : Config) (patch : BalloonPatch) (paused : Bool) (guest : Option Guest) → IsTaken (changed config (call.PatchBalloon patch))
     → ReadyBy config paused guest → ReadyBy (changed config (call.PatchBalloon patch)) paused guest
 amount_patched config patch paused guest taken is =
     let after : Config = changed config (call.PatchBalloon patch) in
-    let kinds = kinds_alike config.drives config.drives config.interfaces config.interfaces config.vsock config.balloon after.balloon refl refl (amount_alike patch config.balloon) in
-    let count = ap (λ (n : ℕ). length config.drives + length config.interfaces + vsock_count config.vsock + n) (amount_count patch config.balloon) in
+    let kinds = kinds_alike config.drives config.drives config.interfaces config.interfaces config.vsock config.balloon config.entropy after.balloon refl refl (amount_alike patch config.balloon) in
+    let count = ap (λ (n : ℕ). length config.drives + length config.interfaces + vsock_count config.vsock + n + entropy_count config.entropy) (amount_count patch config.balloon) in
     reconfigured config after paused taken refl refl kinds count guest is
 
 pub interval_patched : (config : Config) (patch : StatisticsPatch) (paused : Bool) (guest : Option Guest)
@@ -173,8 +181,8 @@ pub interval_patched : (config : Config) (patch : StatisticsPatch) (paused : Boo
     → ReadyBy (changed config (call.PatchStatistics patch)) paused guest
 interval_patched config patch paused guest taken is =
     let after : Config = changed config (call.PatchStatistics patch) in
-    let kinds = kinds_alike config.drives config.drives config.interfaces config.interfaces config.vsock config.balloon after.balloon refl refl (interval_alike patch config.balloon) in
-    let count = ap (λ (n : ℕ). length config.drives + length config.interfaces + vsock_count config.vsock + n) (interval_count patch config.balloon) in
+    let kinds = kinds_alike config.drives config.drives config.interfaces config.interfaces config.vsock config.balloon config.entropy after.balloon refl refl (interval_alike patch config.balloon) in
+    let count = ap (λ (n : ℕ). length config.drives + length config.interfaces + vsock_count config.vsock + n + entropy_count config.entropy) (interval_count patch config.balloon) in
     reconfigured config after paused taken refl refl kinds count guest is
 
 -- ---- a device is told of a change

@@ -10,7 +10,7 @@ use Rattle.vm_types.specs.Saved.{Saved}
 use Rattle.refusals.specs.declared.refusal.Refusal.{Refusal}
 use Rattle.refusals.specs.declared.refusal.Refusal.TheVariants as refusal
 use Rattle.vm_config.specs.declared.config.Config.{Config}
-use Rattle.vm_config.specs.Devices.{Configured, devices_of, of_balloon, of_drive, of_interface, of_vsock}
+use Rattle.vm_config.specs.Devices.{Configured, devices_of, of_balloon, of_drive, of_entropy, of_interface, of_vsock}
 use Rattle.api_rules.specs.Table.{fits_by, is_missing, len_of}
 use Rattle.api_rules.specs.declared.actions.InitrdFile.{InitrdFile}
 use Rattle.guest_memory.specs.Memory.{put_at}
@@ -83,6 +83,7 @@ device_fits saved (of_drive d) = few_sectors (get saved d.path_on_host)
 device_fits saved (of_interface i) = tt
 device_fits saved (of_vsock v) = tt
 device_fits saved (of_balloon b) = tt
+device_fits saved (of_entropy e) = tt
 
 pub devices_fit : (config : Config) (saved : Saved) → All FitsNew (devices_from config saved)
 devices_fit config saved =

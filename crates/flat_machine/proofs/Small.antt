@@ -47,6 +47,7 @@ reply_small (given.Received connection bytes) form =
     received_small (nat_le (length bytes) 64) connection bytes refl form.0 form.1
 reply_small (given.Ended connection) form = tt
 reply_small (given.Dialled connection) form = form
+reply_small (given.Word word) form = form
 
 item_small : (it : Item) → HasForm it → IsSmallItem it
 item_small item.Nothing form = tt

@@ -15,6 +15,7 @@ use Rattle.token_bucket.specs.Rate.{rate_of}
 use Rattle.port_table.specs.declared.state.PortState.{PortState}
 use Rattle.api_calls.specs.declared.balloon.Balloon.{Balloon}
 use Rattle.api_calls.specs.declared.call.Drive.{Drive}
+use Rattle.api_calls.specs.declared.entropy.Entropy.{Entropy}
 use Rattle.api_calls.specs.declared.interface.Interface.{Interface}
 use Rattle.api_calls.specs.declared.interface.InterfacePatch.{InterfacePatch}
 use Rattle.api_calls.specs.declared.limiter.BucketConfig.{BucketConfig}
@@ -24,7 +25,7 @@ use Rattle.api_calls.specs.Drives.{is_root}
 use Rattle.api_calls.specs.Form.{holds, is_id_byte, is_path}
 use Rattle.api_calls.specs.Limits.{is_bucket, is_limiter}
 use Rattle.vm_config.specs.declared.config.Config.{Config}
-use Rattle.vm_config.specs.Devices.{Configured, balloon_devices, devices_of, of_balloon, of_drive, of_interface, of_vsock, vsock_devices}
+use Rattle.vm_config.specs.Devices.{Configured, balloon_devices, devices_of, entropy_devices, lone_devices, of_balloon, of_drive, of_entropy, of_interface, of_vsock, vsock_devices}
 use Rattle.vm_config.specs.Drives.{in_order}
 use Rattle.rate_gate.specs.Small.{AreSmallLimits, AreSmallOthers, IsSmallBucket}
 use Rattle.vsock_device.specs.Small.{IsSmallConnection}
@@ -38,9 +39,10 @@ use Rattle.flat_guest.specs.Narrow as narrow
 use Rattle.flat_guest.proofs.Savable.{AreShown, get_all}
 use Rattle.flat_guest.specs.Savable.{IsSizedPort}
 use Rattle.flat_guest.proofs.Widths.{widths_told}
-use Rattle.snap_state.specs.Valid.{is_balloon, is_drive, is_interface, is_vsock}
+use Rattle.snap_state.specs.Valid.{is_balloon, is_drive, is_entropy, is_interface, is_vsock}
 use Rattle.snap_state.proofs.Texts.{all_ascii, bucket_parts, drive_parts, drives_of, interface_parts, links_of}
 use Rattle.flat_machine.specs.Balloon.{interval_told, new_balloon, target_in, target_of}
+use Rattle.flat_machine.specs.Entropy.{new_entropy}
 use Rattle.flat_machine.specs.Interfaces.{new_net}
 use Rattle.flat_machine.specs.Vsock.{new_vsock}
 use Rattle.flat_machine.specs.Limits.{bucket_of, limits_of, limits_told, receives_told, transmits_told}
@@ -198,6 +200,16 @@ balloons_narrow saved mib (Some b) is =
     let P : Configured → Type 0 = λ c. IsNarrowNew (device_from saved c) in
     All-cons P (of_balloon b) [] (balloon_narrow mib b is) (All-nil P)
 
+entropy_narrow : (e : Entropy) → is_entropy e ≡ true → IsNarrowNew (kinds.Entropy (new_entropy e))
+entropy_narrow e is = λ yes. limits_small e.rate_limiter is
+
+entropies_narrow : (saved : Saved) (entropy : Option Entropy) → holds is_entropy entropy ≡ true
+    → All (λ (c : Configured). IsNarrowNew (device_from saved c)) (entropy_devices entropy)
+entropies_narrow saved None is = All-nil (λ (c : Configured). IsNarrowNew (device_from saved c))
+entropies_narrow saved (Some e) is =
+    let P : Configured → Type 0 = λ c. IsNarrowNew (device_from saved c) in
+    All-cons P (of_entropy e) [] (entropy_narrow e is) (All-nil P)
+
 pub devices_narrow : (config : Config) (saved : Saved) → IsTaken config → All IsNarrowNew (devices_from config saved)
 devices_narrow config saved taken =
     let P : Configured → Type 0 = λ c. IsNarrowNew (device_from saved c) in
@@ -206,11 +218,14 @@ devices_narrow config saved taken =
     let balloon = balloons_narrow saved config.machine.mem_size_mib config.balloon taken.balloon in
     All-map IsNarrowNew (device_from saved) (devices_of config)
     (All-append P (map of_drive (in_order config.drives))
-    (map of_interface config.interfaces ++ (vsock_devices config.vsock ++ balloon_devices config.balloon))
+    (map of_interface config.interfaces ++ lone_devices config.vsock config.balloon config.entropy)
     (All-map P of_drive (in_order config.drives) drives)
-    (All-append P (map of_interface config.interfaces) (vsock_devices config.vsock ++ balloon_devices config.balloon)
+    (All-append P (map of_interface config.interfaces) (lone_devices config.vsock config.balloon config.entropy)
     (All-map P of_interface config.interfaces interfaces)
-    (All-append P (vsock_devices config.vsock) (balloon_devices config.balloon) (vsocks_narrow saved config.vsock taken.vsock) balloon)))
+    (All-append P (vsock_devices config.vsock) (balloon_devices config.balloon ++ entropy_devices config.entropy)
+    (vsocks_narrow saved config.vsock taken.vsock)
+    (All-append P (balloon_devices config.balloon) (entropy_devices config.entropy) balloon
+    (entropies_narrow saved config.entropy taken.entropy)))))
 
 -- ---- what a PATCH tells
 

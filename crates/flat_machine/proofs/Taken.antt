@@ -15,6 +15,7 @@ use Rattle.api_calls.specs.declared.balloon.StatisticsPatch.{StatisticsPatch}
 use Rattle.api_calls.specs.declared.call.BootSource.{BootSource}
 use Rattle.api_calls.specs.declared.call.Drive.{Drive}
 use Rattle.api_calls.specs.declared.call.MachineConfig.{MachineConfig}
+use Rattle.api_calls.specs.declared.entropy.Entropy.{Entropy}
 use Rattle.api_calls.specs.declared.interface.Interface.{Interface}
 use Rattle.api_calls.specs.declared.vsock.Vsock.{Vsock}
 use Rattle.api_calls.specs.Call.{call_of}
@@ -29,6 +30,7 @@ use Rattle.api_rules.specs.declared.ids.Ids.{Ids}
 use Rattle.api_rules.specs.Table.{amount_of, changed, decision, is_beyond, misplaced, own_refusal, unless, when_allowed}
 use Rattle.devtree.specs.Machine.{args_by}
 use Rattle.snap_state.specs.Valid.{are_paths, has_room, is_balloon, is_machine, is_source, is_valid, is_vsock}
+use Rattle.snap_state.specs.Sections.{entropy_in}
 use Rattle.snap_state.specs.declared.copy.StateCopy.{StateCopy}
 use Rattle.flat_snapshot.specs.Carried.{carried_config}
 use Rattle.flat_snapshot.specs.Copies.{source_of}
@@ -126,33 +128,42 @@ interval_patched mib patch (Some b) fits was =
     and_from _ _ parts.0 (lt-ltb patch.stats_polling_interval_s (2 ^ 16) fits)
 
 -- a patched balloon is as many devices
-amount_room : (drives : List Drive) (interfaces : List Interface) (vsock : Option Vsock) (patch : BalloonPatch) (balloon : Option Balloon)
-    → has_room drives interfaces vsock (with_amount patch balloon) ≡ has_room drives interfaces vsock balloon
-amount_room drives interfaces vsock patch None = refl
-amount_room drives interfaces vsock patch (Some b) = refl
+amount_room : (drives : List Drive) (interfaces : List Interface) (vsock : Option Vsock) (patch : BalloonPatch) (balloon : Option Balloon) (entropy : Option Entropy)
+    → has_room drives interfaces vsock (with_amount patch balloon) entropy ≡ has_room drives interfaces vsock balloon entropy
+amount_room drives interfaces vsock patch None entropy = refl
+amount_room drives interfaces vsock patch (Some b) entropy = refl
 
-interval_room : (drives : List Drive) (interfaces : List Interface) (vsock : Option Vsock) (patch : StatisticsPatch) (balloon : Option Balloon)
-    → has_room drives interfaces vsock (with_interval patch balloon) ≡ has_room drives interfaces vsock balloon
-interval_room drives interfaces vsock patch None = refl
-interval_room drives interfaces vsock patch (Some b) = refl
+interval_room : (drives : List Drive) (interfaces : List Interface) (vsock : Option Vsock) (patch : StatisticsPatch) (balloon : Option Balloon) (entropy : Option Entropy)
+    → has_room drives interfaces vsock (with_interval patch balloon) entropy ≡ has_room drives interfaces vsock balloon entropy
+interval_room drives interfaces vsock patch None entropy = refl
+interval_room drives interfaces vsock patch (Some b) entropy = refl
 
 -- there is room for a balloon where there is one, or room for one device more
-balloon_room : (drives : List Drive) (interfaces : List Interface) (vsock : Option Vsock) (new : Balloon) (old : Option Balloon)
-    → has_room drives interfaces vsock old ≡ true → (is_none old && nat_le 16 (count_in drives interfaces vsock old)) ≡ false
-    → has_room drives interfaces vsock (Some new) ≡ true
-balloon_room drives interfaces vsock new None fits room =
-    let less = leb-false 16 (count_in drives interfaces vsock None) room in
-    le-leb (count_in drives interfaces vsock (Some new)) 16 (omega (arith, less))
-balloon_room drives interfaces vsock new (Some b) fits room = fits
+balloon_room : (drives : List Drive) (interfaces : List Interface) (vsock : Option Vsock) (new : Balloon) (old : Option Balloon) (entropy : Option Entropy)
+    → has_room drives interfaces vsock old entropy ≡ true → (is_none old && nat_le 16 (count_in drives interfaces vsock old entropy)) ≡ false
+    → has_room drives interfaces vsock (Some new) entropy ≡ true
+balloon_room drives interfaces vsock new None entropy fits room =
+    let less = leb-false 16 (count_in drives interfaces vsock None entropy) room in
+    le-leb (count_in drives interfaces vsock (Some new) entropy) 16 (omega (arith, less))
+balloon_room drives interfaces vsock new (Some b) entropy fits room = fits
 
 -- and so for a vsock device
-vsock_room : (drives : List Drive) (interfaces : List Interface) (new : Vsock) (old : Option Vsock) (balloon : Option Balloon)
-    → has_room drives interfaces old balloon ≡ true → (is_none old && nat_le 16 (count_in drives interfaces old balloon)) ≡ false
-    → has_room drives interfaces (Some new) balloon ≡ true
-vsock_room drives interfaces new None balloon fits room =
-    let less = leb-false 16 (count_in drives interfaces None balloon) room in
-    le-leb (count_in drives interfaces (Some new) balloon) 16 (omega (arith, less))
-vsock_room drives interfaces new (Some v) balloon fits room = fits
+vsock_room : (drives : List Drive) (interfaces : List Interface) (new : Vsock) (old : Option Vsock) (balloon : Option Balloon) (entropy : Option Entropy)
+    → has_room drives interfaces old balloon entropy ≡ true → (is_none old && nat_le 16 (count_in drives interfaces old balloon entropy)) ≡ false
+    → has_room drives interfaces (Some new) balloon entropy ≡ true
+vsock_room drives interfaces new None balloon entropy fits room =
+    let less = leb-false 16 (count_in drives interfaces None balloon entropy) room in
+    le-leb (count_in drives interfaces (Some new) balloon entropy) 16 (omega (arith, less))
+vsock_room drives interfaces new (Some v) balloon entropy fits room = fits
+
+-- and for an entropy device
+entropy_room : (drives : List Drive) (interfaces : List Interface) (vsock : Option Vsock) (balloon : Option Balloon) (new : Entropy) (old : Option Entropy)
+    → has_room drives interfaces vsock balloon old ≡ true → (is_none old && nat_le 16 (count_in drives interfaces vsock balloon old)) ≡ false
+    → has_room drives interfaces vsock balloon (Some new) ≡ true
+entropy_room drives interfaces vsock balloon new None fits room =
+    let less = leb-false 16 (count_in drives interfaces vsock balloon None) room in
+    le-leb (count_in drives interfaces vsock balloon (Some new)) 16 (omega (arith, less))
+entropy_room drives interfaces vsock balloon new (Some e) fits room = fits
 
 cid_fits : (v : Vsock) → IsWithin 3 4294967294 v.guest_cid → is_path v.uds_path ≡ true → is_vsock v ≡ true
 cid_fits v within named =
@@ -175,11 +186,11 @@ module _ (p : Phase) (config : Config) (ids : Ids) (taken : IsTaken config) wher
       (and_from (is_path source.kernel_image_path) (are_paths source.initrd_path) asked.0 (paths_are source.initrd_path asked.1))
       (and_from (nat_le (length source.boot_args) 2048) (is_utf8 source.boot_args) (le-leb (length source.boot_args) 2048 asked.2) asked.3)
   call_fits (call.PutDrive drive) asked own =
-      put_told drive config.drives config.interfaces config.vsock config.balloon taken.drives taken.room (and_from _ _ (and_from _ _ asked.0 asked.1) asked.2)
+      put_told drive config.drives config.interfaces config.vsock config.balloon config.entropy taken.drives taken.room (and_from _ _ (and_from _ _ asked.0 asked.1) asked.2)
       (first_row _ _ _ _ own) (second_row _ _ _ _ own)
   call_fits (call.PatchDrive patch) asked own = (asked.1, asked.2)
   call_fits (call.PutInterface interface) asked own =
-      let put = interface_put config.drives interface config.interfaces config.vsock config.balloon taken.interfaces taken.room
+      let put = interface_put config.drives interface config.interfaces config.vsock config.balloon config.entropy taken.interfaces taken.room
       (and_from _ _ (and_from _ _ (and_from _ _ (and_from _ _ asked.0 asked.1) asked.2) asked.3.0) asked.3.1)
       (only_row _ _ own) in
       (put.0, put.1, mmds_put interface config.interfaces config.mmds taken.mmds)
@@ -197,12 +208,16 @@ module _ (p : Phase) (config : Config) (ids : Ids) (taken : IsTaken config) wher
       )
   call_fits (call.PutVsock vsock) asked own = (
     cid_fits vsock asked.0 asked.1,
-    vsock_room config.drives config.interfaces vsock config.vsock config.balloon taken.room (only_row _ _ own),
+    vsock_room config.drives config.interfaces vsock config.vsock config.balloon config.entropy taken.room (only_row _ _ own),
   )
   call_fits (call.PutBalloon balloon) asked own = (
     and_from _ _ (le-leb balloon.amount_mib config.machine.mem_size_mib (within _ _ (first_row _ _ _ _ own)))
         (lt-ltb balloon.stats_polling_interval_s (2 ^ 16) asked),
-    balloon_room config.drives config.interfaces config.vsock balloon config.balloon taken.room (second_row _ _ _ _ own),
+    balloon_room config.drives config.interfaces config.vsock balloon config.balloon config.entropy taken.room (second_row _ _ _ _ own),
+  )
+  call_fits (call.PutEntropy entropy) asked own = (
+    asked,
+    entropy_room config.drives config.interfaces config.vsock config.balloon entropy config.entropy taken.room (only_row _ _ own),
   )
   call_fits (call.PatchBalloon patch) asked own = within config.machine.mem_size_mib patch.amount_mib (second_row _ _ _ _ own)
   call_fits (call.PatchStatistics patch) asked own = asked
@@ -233,6 +248,7 @@ same_taken config taken = record {
   mmds = taken.mmds;
   machine = taken.machine;
   balloon = taken.balloon;
+  entropy = taken.entropy;
   room = taken.room;
 }
 
@@ -247,6 +263,7 @@ machine_taken config machine taken fit = record {
   mmds = taken.mmds;
   machine = fit.0;
   balloon = fit.1;
+  entropy = taken.entropy;
   room = taken.room;
 }
 
@@ -259,6 +276,7 @@ changed_taken config (call.PutBootSource source) taken fit = record {
   mmds = taken.mmds;
   machine = taken.machine;
   balloon = taken.balloon;
+  entropy = taken.entropy;
   room = taken.room;
 }
 changed_taken config (call.PutDrive drive) taken fit = record {
@@ -269,6 +287,7 @@ changed_taken config (call.PutDrive drive) taken fit = record {
   mmds = taken.mmds;
   machine = taken.machine;
   balloon = taken.balloon;
+  entropy = taken.entropy;
   room = fit.1;
 }
 changed_taken config (call.PatchDrive patch) taken fit = record {
@@ -279,6 +298,7 @@ changed_taken config (call.PatchDrive patch) taken fit = record {
   mmds = taken.mmds;
   machine = taken.machine;
   balloon = taken.balloon;
+  entropy = taken.entropy;
   room =
       let many = length-patched patch config.drives in
       le-leb (device_count (changed config (call.PatchDrive patch))) 16 (omega (arith, many, leb-true (device_count config) 16 taken.room));
@@ -291,6 +311,7 @@ changed_taken config (call.PutInterface interface) taken fit = record {
   mmds = fit.2;
   machine = taken.machine;
   balloon = taken.balloon;
+  entropy = taken.entropy;
   room = fit.1;
 }
 changed_taken config (call.PatchInterface patch) taken fit = record {
@@ -301,6 +322,7 @@ changed_taken config (call.PatchInterface patch) taken fit = record {
   mmds = mmds_patched patch config.interfaces config.mmds taken.mmds;
   machine = taken.machine;
   balloon = taken.balloon;
+  entropy = taken.entropy;
   room =
       let many = many_patched patch config.interfaces in
       le-leb (device_count (changed config (call.PatchInterface patch))) 16
@@ -316,6 +338,7 @@ changed_taken config (call.PutVsock vsock) taken fit = record {
   mmds = taken.mmds;
   machine = taken.machine;
   balloon = taken.balloon;
+  entropy = taken.entropy;
   room = fit.1;
 }
 changed_taken config (call.PutBalloon balloon) taken fit = record {
@@ -326,6 +349,18 @@ changed_taken config (call.PutBalloon balloon) taken fit = record {
   mmds = taken.mmds;
   machine = taken.machine;
   balloon = fit.0;
+  entropy = taken.entropy;
+  room = fit.1;
+}
+changed_taken config (call.PutEntropy entropy) taken fit = record {
+  source = taken.source;
+  drives = taken.drives;
+  interfaces = taken.interfaces;
+  vsock = taken.vsock;
+  mmds = taken.mmds;
+  machine = taken.machine;
+  balloon = taken.balloon;
+  entropy = fit.0;
   room = fit.1;
 }
 changed_taken config (call.PatchBalloon patch) taken fit = record {
@@ -336,7 +371,8 @@ changed_taken config (call.PatchBalloon patch) taken fit = record {
   mmds = taken.mmds;
   machine = taken.machine;
   balloon = amount_patched config.machine.mem_size_mib patch config.balloon fit taken.balloon;
-  room = amount_room config.drives config.interfaces config.vsock patch config.balloon ∙ taken.room;
+  entropy = taken.entropy;
+  room = amount_room config.drives config.interfaces config.vsock patch config.balloon config.entropy ∙ taken.room;
 }
 changed_taken config (call.PatchStatistics patch) taken fit = record {
   source = taken.source;
@@ -346,7 +382,8 @@ changed_taken config (call.PatchStatistics patch) taken fit = record {
   mmds = taken.mmds;
   machine = taken.machine;
   balloon = interval_patched config.machine.mem_size_mib patch config.balloon fit taken.balloon;
-  room = interval_room config.drives config.interfaces config.vsock patch config.balloon ∙ taken.room;
+  entropy = taken.entropy;
+  room = interval_room config.drives config.interfaces config.vsock patch config.balloon config.entropy ∙ taken.room;
 }
 changed_taken config (call.PutMmdsConfig mmds) taken fit = record {
   source = taken.source;
@@ -356,6 +393,7 @@ changed_taken config (call.PutMmdsConfig mmds) taken fit = record {
   mmds = fit;
   machine = taken.machine;
   balloon = taken.balloon;
+  entropy = taken.entropy;
   room = taken.room;
 }
 changed_taken config call.InstanceStart taken fit = same_taken config taken
@@ -377,6 +415,7 @@ configured_taken config is = record {
   mmds = is.mmds;
   machine = is.machine;
   balloon = is.balloon;
+  entropy = is.entropy;
   room = is.room;
 }
 
@@ -391,6 +430,7 @@ taken_configured config source there taken = record {
   mmds = taken.mmds;
   machine = taken.machine;
   balloon = taken.balloon;
+  entropy = taken.entropy;
   room = taken.room;
 }
 
@@ -398,11 +438,11 @@ taken_configured config source there taken = record {
 
 pub default_taken : IsTaken default_config
 default_taken =
-    record { source = tt; drives = refl; interfaces = refl; vsock = refl; mmds = refl; machine = refl; balloon = refl; room = refl }
+    record { source = tt; drives = refl; interfaces = refl; vsock = refl; mmds = refl; machine = refl; balloon = refl; entropy = refl; room = refl }
 
 -- what goes on from a copy that a file can have; its bytes don't matter
-pub carried_taken : (tracking : Bool) (copy : StateCopy) → IsTrue (is_valid copy) → IsTaken (carried_config tracking copy.configuration)
+pub carried_taken : (tracking : Bool) (copy : StateCopy) → IsTrue (is_valid copy) → IsTaken (carried_config tracking copy.configuration (entropy_in copy.sections))
 carried_taken tracking copy valid =
     let bytes : List ℕ = replicate (page_size * copy.pages) 0 in
-    configured_taken (carried_config tracking copy.configuration)
+    configured_taken (carried_config tracking copy.configuration (entropy_in copy.sections))
     (carried_ready copy bytes tracking valid (length-replicate {A = ℕ} (page_size * copy.pages) 0)).configured

@@ -19,3 +19,4 @@ reply_given (given.Received connection bytes) =
     if nat_le (length bytes) 64 then Host (Reply.Received bytes connection) else Nothing
 reply_given (given.Ended connection) = Host (Reply.Ended connection)
 reply_given (given.Dialled connection) = Host (Reply.Dialled connection)
+reply_given (given.Word word) = Host (Reply.Drawn word)

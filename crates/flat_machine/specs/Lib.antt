@@ -1,4 +1,5 @@
 pub mod Balloon
+pub mod Entropy
 pub mod Between
 pub mod Given
 pub mod Interfaces

@@ -3,6 +3,7 @@ use Rattle.std.specs.Prelude.{ℕ, ◌≡◌, ◌<◌, ◌≤◌, ◌*◌, ◌^�
 use Rattle.vm_types.specs.declared.identity.Identity.{Identity}
 use Rattle.vm_types.specs.declared.ids.ActorId.TheVariants.{Timer}
 use Rattle.api_calls.specs.declared.balloon.Balloon.{Balloon}
+use Rattle.api_calls.specs.declared.entropy.Entropy.{Entropy}
 use Rattle.api_calls.specs.declared.call.BootSource.{BootSource}
 use Rattle.api_calls.specs.declared.call.Drive.{Drive}
 use Rattle.api_calls.specs.declared.call.MachineConfig.{MachineConfig}
@@ -21,7 +22,7 @@ use Rattle.guest_memory.specs.Ram.{page_size}
 use Rattle.flat_guest.specs.Changes.{reset_guest}
 use Rattle.flat_guest.specs.Guest.{Guest}
 use Rattle.flat_guest.specs.Sound.{IsSound}
-use Rattle.snap_state.specs.Valid.{are_drives, are_interfaces, has_room, is_balloon, is_machine, is_mmds, is_source, is_valid, is_vsock}
+use Rattle.snap_state.specs.Valid.{are_drives, are_interfaces, has_room, is_balloon, is_entropy, is_machine, is_mmds, is_source, is_valid, is_vsock}
 use Rattle.snap_state.specs.declared.copy.StateCopy.{StateCopy}
 use Rattle.file_format.specs.Identities.{is_numbered}
 use Rattle.file_format.specs.Versions.{current_version}
@@ -39,7 +40,7 @@ IsSourceBy (Some source) = is_source (source_of (Some source)) ≡ true
 -- what is configured is as the API takes it: the boot source, if there is one; the drives, which are told apart, and of
 -- which one at most is the root drive; the interfaces, which are told apart; the vsock device, if there is one; where metadata are given,
 -- at interfaces that are there; how many harts and how much memory there is; the balloon, if there is one, which takes no more than that;
--- and no more devices than there may be
+-- the entropy device, if there is one; and no more devices than there may be
 pub record IsTaken (config : Config) : Type 0 where
   pub source : IsSourceBy config.boot_source
   pub drives : are_drives config.drives ≡ true
@@ -48,16 +49,18 @@ pub record IsTaken (config : Config) : Type 0 where
   pub mmds : holds (is_mmds config.interfaces) config.mmds ≡ true
   pub machine : is_machine config.machine ≡ true
   pub balloon : holds (is_balloon config.machine.mem_size_mib) config.balloon ≡ true
-  pub room : has_room config.drives config.interfaces config.vsock config.balloon ≡ true
+  pub entropy : holds is_entropy config.entropy ≡ true
+  pub room : has_room config.drives config.interfaces config.vsock config.balloon config.entropy ≡ true
 
--- these drives fit beside the interfaces, and a vsock device and a balloon, if there are such
-abbrev pub AreFitting : List Drive → List Interface → Option Vsock → Option Balloon → Type 0
-AreFitting drives interfaces vsock balloon = (are_drives drives ≡ true) × (has_room drives interfaces vsock balloon ≡ true)
+-- these drives fit beside the interfaces, and a vsock device, a balloon and an entropy device, if there are such
+abbrev pub AreFitting : List Drive → List Interface → Option Vsock → Option Balloon → Option Entropy → Type 0
+AreFitting drives interfaces vsock balloon entropy =
+    (are_drives drives ≡ true) × (has_room drives interfaces vsock balloon entropy ≡ true)
 
 -- and so do these interfaces, and those at which metadata are given are among them
-abbrev pub AreLinked : List Drive → List Interface → Option Vsock → Option Balloon → Option MmdsConfig → Type 0
-AreLinked drives interfaces vsock balloon mmds =
-    (are_interfaces interfaces ≡ true) × (has_room drives interfaces vsock balloon ≡ true) × (holds (is_mmds interfaces) mmds ≡ true)
+abbrev pub AreLinked : List Drive → List Interface → Option Vsock → Option Balloon → Option Entropy → Option MmdsConfig → Type 0
+AreLinked drives interfaces vsock balloon entropy mmds =
+    (are_interfaces interfaces ≡ true) × (has_room drives interfaces vsock balloon entropy ≡ true) × (holds (is_mmds interfaces) mmds ≡ true)
 
 -- there may be such a machine, and it has the memory that the balloon is to take, if there is one
 abbrev pub IsHeld : MachineConfig → Option Balloon → Type 0
@@ -66,19 +69,21 @@ IsHeld machine balloon = (is_machine machine ≡ true) × (holds (is_balloon mac
 -- a call leaves it so
 abbrev pub IsFitting : Config → ApiCall → Type 0
 IsFitting config (call.PutBootSource source) = is_source (source_of (Some source)) ≡ true
-IsFitting config (call.PutDrive drive) = AreFitting (put_drive config.drives drive) config.interfaces config.vsock config.balloon
+IsFitting config (call.PutDrive drive) = AreFitting (put_drive config.drives drive) config.interfaces config.vsock config.balloon config.entropy
 IsFitting config (call.PatchDrive patch) =
     (holds is_path patch.path_on_host ≡ true) × (holds is_limiter patch.rate_limiter ≡ true)
 IsFitting config (call.PutInterface interface) =
-    AreLinked config.drives (put_interface config.interfaces interface) config.vsock config.balloon config.mmds
+    AreLinked config.drives (put_interface config.interfaces interface) config.vsock config.balloon config.entropy config.mmds
 IsFitting config (call.PatchInterface patch) =
     (holds is_limiter patch.rx_rate_limiter ≡ true) × (holds is_limiter patch.tx_rate_limiter ≡ true)
 IsFitting config (call.PutMachineConfig machine) = IsHeld machine config.balloon
 IsFitting config (call.PatchMachineConfig patch) = IsHeld (with_fields patch config.machine) config.balloon
 IsFitting config (call.PutVsock vsock) =
-    (is_vsock vsock ≡ true) × (has_room config.drives config.interfaces (Some vsock) config.balloon ≡ true)
+    (is_vsock vsock ≡ true) × (has_room config.drives config.interfaces (Some vsock) config.balloon config.entropy ≡ true)
 IsFitting config (call.PutBalloon balloon) =
-    (is_balloon config.machine.mem_size_mib balloon ≡ true) × (has_room config.drives config.interfaces config.vsock (Some balloon) ≡ true)
+    (is_balloon config.machine.mem_size_mib balloon ≡ true) × (has_room config.drives config.interfaces config.vsock (Some balloon) config.entropy ≡ true)
+IsFitting config (call.PutEntropy entropy) =
+    (is_entropy entropy ≡ true) × (has_room config.drives config.interfaces config.vsock config.balloon (Some entropy) ≡ true)
 IsFitting config (call.PatchBalloon patch) = patch.amount_mib ≤ config.machine.mem_size_mib
 IsFitting config (call.PatchStatistics patch) = patch.stats_polling_interval_s < 2 ^ 16
 IsFitting config (call.PutMmdsConfig mmds) = is_mmds config.interfaces mmds ≡ true

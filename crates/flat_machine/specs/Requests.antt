@@ -33,7 +33,7 @@ use Rattle.vm_config.specs.declared.config.Config.{Config}
 use Rattle.api_calls.specs.declared.call.ApiCall.{ApiCall}
 use Rattle.api_calls.specs.declared.call.ApiCall.TheVariants as call
 use Rattle.vm_config.specs.Changes.{with_amount, with_interval}
-use Rattle.vm_config.specs.Devices.{Configured, balloon_device, devices_of, interface_device, of_balloon, of_drive, of_interface, of_vsock}
+use Rattle.vm_config.specs.Devices.{Configured, balloon_device, devices_of, interface_device, of_balloon, of_drive, of_entropy, of_interface, of_vsock}
 use Rattle.vm_config.specs.Drives.{device_of}
 use Rattle.vm_config.specs.Texts.{Told}
 use Rattle.api_rules.specs.declared.answer.Answer.{Answer}
@@ -58,11 +58,13 @@ use Rattle.flat_guest.specs.Guest.{Guest, unwritten}
 use Rattle.flat_guest.specs.Start.{started, timer_restarted}
 use Rattle.snap_state.specs.declared.copy.StateCopy.{StateCopy}
 use Rattle.snap_state.specs.Files.{IsSaved}
+use Rattle.snap_state.specs.Sections.{entropy_in}
 use Rattle.file_format.specs.Versions.{current_version}
 use Rattle.flat_snapshot.specs.Carried.{carried_config, carried_guest}
 use Rattle.flat_snapshot.specs.Copies.{IsCopyOf}
 use Rattle.flat_snapshot.specs.Files.{calls_of, head_of, saved_pages, state_file}
 use Rattle.flat_snapshot.specs.Found.{Snapshot, found}
+use Rattle.flat_machine.specs.Entropy.{new_entropy}
 use Rattle.flat_machine.specs.Balloon.{TellsBalloon, interval_told, new_balloon, target_in}
 use Rattle.flat_machine.specs.Interfaces.{new_net}
 use Rattle.flat_machine.specs.Vsock.{new_vsock}
@@ -209,6 +211,7 @@ device_from saved (of_drive d) = drive_from saved d
 device_from saved (of_interface i) = kinds.Net (new_net i)
 device_from saved (of_vsock v) = kinds.Vsock (new_vsock v)
 device_from saved (of_balloon b) = kinds.Balloon (new_balloon b)
+device_from saved (of_entropy e) = kinds.Entropy (new_entropy e)
 
 abbrev pub devices_from : Config → Saved → List NewDevice
 devices_from config saved = map (device_from saved) (devices_of config)
@@ -324,7 +327,7 @@ Creates (Some g) m it kept n = CreatesOf (reset_guest g) m it kept n
 abbrev pub carried : Machine → SnapshotLoad → Snapshot → Machine
 carried m load it = record m {
   ids = based it.identity (it.identity.number + 1) m.ids;
-  config = carried_config load.track_dirty_pages it.copy.configuration;
+  config = carried_config load.track_dirty_pages it.copy.configuration (entropy_in it.copy.sections);
   metadata = null;
   guest = Some (carried_guest it.copy it.bytes);
   paused = not load.resume_vm;

@@ -39,7 +39,8 @@ use Rattle.snap_harts.specs.Copy.{regs_of, turn_of}
 use Rattle.snap_state.specs.declared.copy.Reservation.{Reservation}
 use Rattle.snap_state.specs.declared.copy.StateCopy.{StateCopy}
 use Rattle.snap_state.specs.Copy.{board_of}
-use Rattle.snap_state.specs.Valid.{asks, has_bits, is_aligned, is_board, is_counted, is_granule, is_hart, is_machine, is_placed, is_reserved, is_valid, kinds_of}
+use Rattle.snap_state.specs.Sections.{entropy_in}
+use Rattle.snap_state.specs.Valid.{asks, has_bits, is_aligned, is_board, is_counted, is_granule, is_hart, is_machine, is_placed, is_reserved, is_valid, kinds_in}
 use Rattle.snap_state.proofs.HasDevices.{has_parts}
 use Rattle.snap_state.proofs.Rules.{attached, few_harts, rules_of}
 use Rattle.flat_snapshot.specs.Carried.{carried_config, carried_guest, hart_steps, resumed, slots_with, steps_at}
@@ -199,7 +200,7 @@ module _ (copy : StateCopy) (bytes : List ℕ) (tracking : Bool) (valid : IsTrue
             (none_reserved harts 0 (hart_limit * copy.pages));
       }
 
-  pub shaped : guest.IsShaped copy.pages harts (kinds_of copy.configuration) (carried_guest copy bytes)
+  pub shaped : guest.IsShaped copy.pages harts (kinds_in copy) (carried_guest copy bytes)
   shaped =
       let rules = rules_of copy valid in record {
         few = few_harts copy rules;
@@ -211,7 +212,7 @@ module _ (copy : StateCopy) (bytes : List ℕ) (tracking : Bool) (valid : IsTrue
         timely = timely_on copy.guest_time copy.devices rules.timely;
       }
 
-  pub carried_ready : IsReady (carried_config tracking copy.configuration) (carried_guest copy bytes)
+  pub carried_ready : IsReady (carried_config tracking copy.configuration (entropy_in copy.sections)) (carried_guest copy bytes)
   carried_ready =
       let rules = rules_of copy valid in
       let on = attached copy rules in record {
@@ -223,8 +224,9 @@ module _ (copy : StateCopy) (bytes : List ℕ) (tracking : Bool) (valid : IsTrue
           mmds = rules.mmds;
           machine = machine_parts.0;
           balloon = rules.balloon;
+          entropy = rules.entropy;
           room = rules.room;
         };
-        shaped = subst (λ (n : ℕ). guest.IsShaped n harts (kinds_of copy.configuration) (carried_guest copy bytes)) machine_parts.1 shaped;
+        shaped = subst (λ (n : ℕ). guest.IsShaped n harts (kinds_in copy) (carried_guest copy bytes)) machine_parts.1 shaped;
         devices = length-map copy.devices resumed ∙ on.devices;
       }

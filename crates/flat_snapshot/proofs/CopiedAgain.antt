@@ -37,6 +37,7 @@ use Rattle.snap_harts.specs.Harts.{hart, place}
 use Rattle.snap_state.specs.Valid.{are_devices, asks, is_before, is_device, is_hart, is_reserved, is_rising, rises_from}
 use Rattle.snap_state.proofs.Parts.{hart_again}
 use Rattle.snap_state.proofs.Rules.{attached, device_of, few_harts, rules_of}
+use Rattle.snap_state.specs.Sections.{entropy_in}
 use Rattle.snap_state.proofs.Sectioned.{sections_known}
 use Rattle.flat_snapshot.specs.Copies.{AreHarts, AreKept, IsCopyOf, reservations_from}
 use Rattle.flat_snapshot.specs.Carried.{carried_config, carried_guest, hart_steps, resumed, slots_with, steps_at, steps_from, with_tracking}
@@ -227,7 +228,7 @@ harts_fit v c fits = fits.1.1.0.1
 pub copied_again : (version : Version) (identity : Identity) (c : StateCopy) (bytes : List ℕ) (tracking : Bool)
     → IsSaved version (record { identity = identity; copy = c })
     → length bytes ≡ page_size * c.pages
-    → IsCopyOf (carried_config tracking c.configuration) (carried_guest c bytes) (with_tracking tracking c)
+    → IsCopyOf (carried_config tracking c.configuration (entropy_in c.sections)) (carried_guest c bytes) (with_tracking tracking c)
 copied_again version identity c bytes tracking saved whole =
     let parts = rules_of c saved.valid in
     let pages : c.pages ≡ length bytes / page_size = omega (arith, whole) in

@@ -8,6 +8,8 @@ use Rattle.vm_types.specs.declared.identity.Identity.{Identity}
 use Rattle.vm_types.specs.declared.ids.ActorId.{ActorId}
 use Rattle.vm_types.specs.declared.ids.ActorId.TheVariants.{Hart as HartId}
 use Rattle.vm_types.specs.declared.entry.Step.{Step}
+use Rattle.api_calls.specs.declared.entropy.Entropy.{Entropy}
+use Rattle.api_calls.specs.Form.{holds}
 use Rattle.vm_config.specs.declared.config.Config.{Config}
 use Rattle.file_format.specs.Identities.{identity, is_numbered}
 use Rattle.file_format.specs.Versions.{current_version}
@@ -34,11 +36,12 @@ use Rattle.snap_harts.proofs.Fits.{hart_fits}
 use Rattle.snap_state.specs.declared.copy.StateCopy.{StateCopy}
 use Rattle.snap_state.specs.Copies.{devices, reservation, section, sections_in, state_copy}
 use Rattle.snap_state.specs.Files.{contents, contents_of}
-use Rattle.snap_state.specs.Valid.{is_machine, is_valid}
+use Rattle.snap_state.specs.Sections.{entropy_in}
+use Rattle.snap_state.specs.Valid.{is_entropy, is_machine, is_valid}
 use Rattle.snap_state.proofs.Fits.{board_fits, reservations_fit, sections_fit}
 use Rattle.snap_state.proofs.Longest.{body_short}
 use Rattle.snap_state.proofs.Rules.{Rules, attached, few_harts, few_pages, rules_of}
-use Rattle.snap_state.proofs.Sectioned.{one_at_most}
+use Rattle.snap_state.proofs.Sectioned.{entropy_told, two_at_most}
 use Rattle.snap_state.proofs.Sizes.{device_within}
 use Rattle.snap_state.proofs.Texts.{configuration_fits}
 use Rattle.flat_snapshot.specs.Copies.{AreHarts, IsCopyOf, configuration_of, copy_of, reservations_from}
@@ -116,7 +119,7 @@ module _ (config : Config) (g : Guest) (copy : StateCopy) (own : Identity) (of :
 
   few_links : length config.interfaces ≤ most_ports
   few_links =
-      let room = leb-true (count_in config.drives config.interfaces config.vsock config.balloon) most_ports rules.room in
+      let room = leb-true (count_in config.drives config.interfaces config.vsock config.balloon (entropy_in made.sections)) most_ports rules.room in
       omega (arith, room)
 
   machine : is_machine config.machine ≡ true
@@ -133,6 +136,10 @@ module _ (config : Config) (g : Guest) (copy : StateCopy) (own : Identity) (of :
   each i start h there leads =
       let here : 0 + i ≡ i = omega arith in
       savable.each i start h there (subst (λ (n : ℕ). LeadsTo start (g.steps (HartId n)) h) here leads)
+
+  entropy : holds is_entropy config.entropy ≡ true
+  entropy =
+      subst (λ (e : Option Entropy). holds is_entropy e ≡ true) (entropy_told g.ports config.entropy) rules.entropy
 
   made_fits : (state_copy current_version).Fits made
   unfolding state_copy devices sections_in
@@ -162,7 +169,8 @@ module _ (config : Config) (g : Guest) (copy : StateCopy) (own : Identity) (of :
                 (
                   fits_list reservation made.reservations (omega (arith, held))
                       (reservations_fit made.pages config.machine.vcpu_count made.reservations (omega (arith, few)) harts rules.reservations),
-                  fits_list section made.sections (omega (arith, one_at_most g.ports)) (sections_fit g.ports (omega (arith, ports, drives))),
+                  fits_list section made.sections (omega (arith, two_at_most g.ports config.entropy))
+                      (sections_fit g.ports config.entropy (omega (arith, ports, drives)) entropy),
                 ),
               ),
             ),

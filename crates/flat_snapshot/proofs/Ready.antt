@@ -7,6 +7,8 @@ use Rattle.std.proofs.lemmas.List.{length-map}
 use Rattle.vm_types.specs.declared.ids.ActorId.{ActorId}
 use Rattle.vm_types.specs.declared.ids.ActorId.TheVariants.{Hart as HartId}
 use Rattle.vm_types.specs.declared.entry.Step.{Step}
+use Rattle.api_calls.specs.declared.entropy.Entropy.{Entropy}
+use Rattle.api_calls.specs.Form.{holds}
 use Rattle.vm_config.specs.declared.config.Config.{Config}
 use Rattle.board_table.specs.Board.{Board, ring_size}
 use Rattle.board_table.specs.Kept.{IsLong}
@@ -43,10 +45,11 @@ use Rattle.snap_harts.proofs.Harts.{hart_back}
 use Rattle.snap_state.specs.declared.copy.StateCopy.{StateCopy}
 use Rattle.snap_state.specs.Copy.{saved_board}
 use Rattle.snap_state.proofs.HasDevices.{has_kinds}
-use Rattle.snap_state.specs.Valid.{are_devices, asks, has_bits, has_devices, has_machine, is_aligned, is_before, is_board, is_counted, is_device, is_granule, is_hart, is_machine, is_placed, is_reserved, is_rising, is_valid, kind_of, rises_from}
+use Rattle.snap_state.specs.Valid.{are_devices, asks, has_bits, has_devices, has_machine, has_room, is_aligned, is_before, is_board, is_counted, is_device, is_entropy, is_granule, is_hart, is_machine, is_placed, is_reserved, is_rising, is_valid, kind_of, kinds_in, kinds_of, rises_from}
+use Rattle.snap_state.specs.Sections.{entropy_in}
 use Rattle.snap_state.proofs.Rules.{rules_hold}
-use Rattle.snap_state.proofs.Sectioned.{sections_taken}
-use Rattle.flat_snapshot.specs.Copies.{AreHarts, AreKept, IsCopyOf, copy_of, reservations_from}
+use Rattle.snap_state.proofs.Sectioned.{entropy_told, sections_taken}
+use Rattle.flat_snapshot.specs.Copies.{AreHarts, AreKept, IsCopyOf, configuration_of, copy_of, reservations_from}
 use Rattle.flat_snapshot.specs.Ready.{IsReady}
 
 -- ---- a hart
@@ -275,9 +278,16 @@ module _ (config : Config) (g : Guest) (sound : IsSound g) (is : IsReady config 
       let many = is.shaped.memory.many_slots in
       reserved_valid copy.pages config.machine.vcpu_count 0 g.memory.reserved is.shaped.memory.slots (omega (arith, many, pages_are))
 
+  told : entropy_in copy.sections ≡ config.entropy
+  told = entropy_told g.ports config.entropy
+
+  kinds_same : kinds_of (configuration_of config) config.entropy ≡ kinds_in copy
+  kinds_same = ap (kinds_of (configuration_of config)) (sym told)
+
   devices_are : has_devices copy ≡ true
   devices_are =
-      has_kinds copy is.shaped.ports (kept_kinds kept g.devices tell ∙ sym sound.devices_on.kinds ∙ is.shaped.ports)
+      has_kinds copy (is.shaped.ports ∙ kinds_same)
+      (kept_kinds kept g.devices tell ∙ sym sound.devices_on.kinds ∙ is.shaped.ports ∙ kinds_same)
       (devices_valid copy.pages 0 kept g.devices few_pages tell
       (λ i d there.
       let here : i ≡ 0 + i = omega arith in
@@ -303,15 +313,18 @@ module _ (config : Config) (g : Guest) (sound : IsSound g) (is : IsReady config 
     mmds = is.configured.mmds;
     machine = machine_is;
     balloon = is.configured.balloon;
-    room = is.configured.room;
+    room =
+        subst (λ (e : Option Entropy). has_room config.drives config.interfaces config.vsock config.balloon e ≡ true) (sym told)
+        is.configured.room;
     board = board_valid config.machine.vcpu_count g.board is.shaped.board;
     many = many_are;
     harts = harts_are;
     devices = devices_are;
     reservations = reserved_are;
     rising = rising 0 g.memory.reserved;
-    sections = sections_taken g.ports;
+    sections = sections_taken g.ports config.entropy;
     timely = timely_valid g.board.now kept g.devices tell is.shaped.timely;
+    entropy = subst (λ (e : Option Entropy). holds is_entropy e ≡ true) (sym told) is.configured.entropy;
   })
 
 pub valid_copy : (config : Config) (g : Guest) (copy : StateCopy) → IsSound g → IsReady config g → config.machine.mem_size_mib ≤ 4096

@@ -5,6 +5,7 @@ use Rattle.vm_types.specs.declared.ids.ActorId.TheVariants.{Hart as HartId}
 use Rattle.vm_types.specs.declared.op.Op.{Op}
 use Rattle.vm_types.specs.declared.reply.Reply.{Reply}
 use Rattle.vm_types.specs.declared.entry.Step.{Step}
+use Rattle.api_calls.specs.declared.entropy.Entropy.{Entropy}
 use Rattle.vm_config.specs.declared.config.Config.{Config}
 use Rattle.le_fields.specs.Fields.{bytes_of}
 use Rattle.guest_memory.specs.Reserved.{hart_limit, unreserved}
@@ -55,9 +56,9 @@ carried_guest copy bytes = record {
   written = none_written;
 }
 
--- the configuration of the copy; whether dirty pages are tracked is said by the load
-abbrev pub carried_config : Bool → Configuration → Config
-carried_config tracking c = record {
+-- the configuration of the copy, with this entropy device, if there is one; whether dirty pages are tracked is said by the load
+abbrev pub carried_config : Bool → Configuration → Option Entropy → Config
+carried_config tracking c entropy = record {
   boot_source = Some (record {
     kernel_image_path = c.boot_source.kernel_image_path;
     initrd_path = c.boot_source.initrd_path;
@@ -68,6 +69,7 @@ carried_config tracking c = record {
   vsock = c.vsock;
   machine = record c.machine { track_dirty_pages = tracking };
   balloon = c.balloon;
+  entropy = entropy;
   mmds = c.mmds;
   configured = true;
 }

@@ -51,7 +51,7 @@ source_of (Some source) =
       boot_args = source.boot_args;
     }
 
--- what is kept of a configuration
+-- what is kept of a configuration, but for the entropy device, which stands in a section
 abbrev pub configuration_of : Config → Configuration
 configuration_of config = record {
   boot_source = source_of config.boot_source;
@@ -75,7 +75,7 @@ copy_of config g harts kept = record {
   ports = g.ports;
   devices = kept;
   reservations = reservations_from 0 g.memory.reserved;
-  sections = sections_of g.ports;
+  sections = sections_of g.ports config.entropy;
 }
 
 -- A copy of the guest of a machine that is configured so. What is kept of a device is any of the data that may be kept and

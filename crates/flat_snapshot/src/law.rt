@@ -20,6 +20,7 @@ ghost use Rattle.snap_diff.specs.Copies.{IsDiffOf};
 ghost use Rattle.snap_diff.specs.Diffs.{IsDiffFile};
 ghost use Rattle.snap_diff.specs.Headers.{are_names, names, names_of};
 ghost use Rattle.snap_state.specs.Files.{Encodes, IsSaved};
+ghost use Rattle.snap_state.specs.Sections.{entropy_in};
 ghost use Rattle.snap_state.specs.Valid.{is_valid as is_valid_copy};
 ghost use Rattle.flat_snapshot.specs.Files.{diff_file, diff_in, memory_file, memory_in, state_file};
 ghost use Rattle.flat_snapshot.specs.Found.{Snapshot, found};
@@ -59,7 +60,7 @@ pub fn valid_copies()
         length g.memory.bytes ≡ page_size * copy.pages }
     ensures carried { (copy : StateCopy) (bytes : List ℕ) (tracking : Bool) → IsTrue (is_valid_copy copy) →
         length bytes ≡ page_size * copy.pages →
-        IsReady (carried_config tracking copy.configuration) (carried_guest copy bytes) }
+        IsReady (carried_config tracking copy.configuration (entropy_in copy.sections)) (carried_guest copy bytes) }
 {}
 
 /// The guest that goes on from a snapshot is never stuck, where a state file can have its copy, and its memory has as
@@ -76,7 +77,7 @@ pub fn goes_on()
 pub fn copied_again()
     ensures { (version : Version) (identity : Identity) (copy : StateCopy) (bytes : List ℕ) (tracking : Bool) →
         IsSaved version (record { identity = identity; copy = copy }) → length bytes ≡ page_size * copy.pages →
-        IsCopyOf (carried_config tracking copy.configuration) (carried_guest copy bytes) (with_tracking tracking copy) }
+        IsCopyOf (carried_config tracking copy.configuration (entropy_in copy.sections)) (carried_guest copy bytes) (with_tracking tracking copy) }
 {}
 
 /// Where a create put the two files of a copy that a state file can have, of a memory of its pages, a load finds just

@@ -39,6 +39,7 @@ frame_fits out.HostNext count fits = absurd (never fits)
 frame_fits (out.HostDial port) count fits = absurd (never fits)
 frame_fits (out.HostSend piece connection) count fits = absurd (never fits)
 frame_fits (out.HostClose connection) count fits = absurd (never fits)
+frame_fits out.DrawWord count fits = absurd (never fits)
 
 -- no host object answers as the board, a port or memory does
 record NoneOf (act : OutOp) : Type 0 where
@@ -61,6 +62,7 @@ none_of out.HostNext = record { returned = λ e v. refl; shown = λ s. refl; por
 none_of (out.HostDial port) = record { returned = λ e v. refl; shown = λ s. refl; port = λ p. refl; full = refl; fault = refl }
 none_of (out.HostSend piece connection) = record { returned = λ e v. refl; shown = λ s. refl; port = λ p. refl; full = refl; fault = refl }
 none_of (out.HostClose connection) = record { returned = λ e v. refl; shown = λ s. refl; port = λ p. refl; full = refl; fault = refl }
+none_of out.DrawWord = record { returned = λ e v. refl; shown = λ s. refl; port = λ p. refl; full = refl; fault = refl }
 
 within : (count : ℕ) → count ≤ 64 → nat_le count 64 ≡ true
 within count less = grind arith
@@ -79,6 +81,7 @@ again act Reply.Nothing fits short = refl
 again act (Reply.Opened connection) fits short = refl
 again act (Reply.Ended connection) fits short = refl
 again act (Reply.Dialled connection) fits short = refl
+again act (Reply.Drawn word) fits short = refl
 again act (Reply.Frame count) fits short = frame_again count (nat_le count 1514) (frame_fits act count fits)
 again act (Reply.Received piece connection) fits short =
     short_again piece connection (nat_le (length piece) 64) (within (length piece) (short piece connection refl))

@@ -38,6 +38,10 @@ use Rattle.net_device.specs.Frames.{header_size, sent_length}
 use Rattle.net_device.specs.Net as nets
 use Rattle.net_device.specs.Work as net_work
 use Rattle.net_device.proofs.Limits as net_limits
+use Rattle.entropy_device.specs.Entropy as entropies
+use Rattle.entropy_device.specs.Words.{filled_length}
+use Rattle.entropy_device.specs.Work as entropy_work
+use Rattle.entropy_device.proofs.Limits as entropy_limits
 use Rattle.guest_devices.specs.declared.change.DeviceChange.{DeviceChange}
 use Rattle.guest_devices.specs.declared.change.DeviceChange.TheVariants as changes
 use Rattle.guest_devices.specs.declared.device.Device.{Device}
@@ -46,7 +50,7 @@ use Rattle.guest_devices.specs.declared.new_device.NewDevice.{NewDevice}
 use Rattle.guest_devices.specs.Devices.{DataOf, DeviceLeads, DeviceLeft, DeviceWants, FlatDevice, device_at, device_changed, device_did}
 use Rattle.guest_devices.specs.Devices.{device_next, device_reset, device_rules, device_told, device_wants, left_of, left_reset, left_times, left_told, new_device, new_left}
 use Rattle.guest_devices.specs.Kept.{device_left, is_device_state, kept_of}
-use Rattle.guest_devices.specs.Kinds.{Balloon, Block, ChangeOf, Kind, Net, OwnOf, StageOf, Vsock, change_for, changing_of, hand_of, is_work_of}
+use Rattle.guest_devices.specs.Kinds.{Balloon, Block, ChangeOf, Entropy, Kind, Net, OwnOf, StageOf, Vsock, change_for, changing_of, hand_of, is_work_of}
 use Rattle.guest_devices.specs.Kinds.{own_at_start, reset_for, service_of, times_of}
 use Rattle.guest_devices.specs.Moments.{IsTimelyDevice, IsTimelyLeft, KeepsTime, are_before, is_before, is_fresh, is_fresh_change, is_fresh_new}
 use Rattle.guest_devices.specs.Moments.{is_timely, is_timely_of}
@@ -71,6 +75,7 @@ own_later Net time later e le is =
     and_from (are_before later e.rx) (are_before later e.tx) (limits_later time later e.rx le both.0) (limits_later time later e.tx le both.1)
 own_later Vsock time later e le is = refl
 own_later Balloon time later e le is = refl
+own_later Entropy time later e le is = limits_later time later e.limits le is
 
 pub device_later : (time later : ℕ) (d : FlatDevice) → time ≤ later → IsTimelyDevice time d → IsTimelyDevice later d
 device_later time later d le (left, leads, was) =
@@ -112,6 +117,14 @@ tx_pass true time now need e le is =
     and_from (are_before time e.rx) (are_before time (gate_took e.tx need now)) both.0 (gate_before time now e.tx need le both.1)
 tx_pass false time now need e le is = is
 
+abbrev limited : Buckets → entropies.Entropy
+limited limits = record { limits = limits }
+
+entropy_pass : (test : Bool) (time now need : ℕ) (e : entropies.Entropy) → now ≤ time → are_before time e.limits ≡ true
+    → are_before time (unwrap_or (option_map limited (if test then Some (gate_took e.limits need now) else None)) e).limits ≡ true
+entropy_pass true time now need e le is = gate_before time now e.limits need le is
+entropy_pass false time now need e le is = is
+
 pass_of : (k : Kind) (w : Which) (c : Chain) (now time : ℕ) (e : OwnOf k) → now ≤ time → is_timely_of k time e ≡ true
     → is_timely_of k time (unwrap_or ((service_of k).passes w c now e) e) ≡ true
 pass_of Block w c now time e le is =
@@ -124,6 +137,9 @@ pass_of Net Second c now time e le is = tx_pass (gate_takes e.tx (sent_length c.
 pass_of Net Third c now time e le is = is
 pass_of Vsock w c now time e le is = refl
 pass_of Balloon w c now time e le is = refl
+pass_of Entropy w c now time e le is =
+    let need = filled_length c.parts in
+    entropy_pass (gate_takes e.limits need now) time now need e le is
 
 passed_of : (k : Kind) (o : Option (Which × Chain)) (now time : ℕ) (e : OwnOf k) → (is_some o ≡ true → now ≤ time)
     → is_timely_of k time e ≡ true → is_timely_of k time (passed_by (service_of k) o now e) ≡ true
@@ -193,6 +209,9 @@ net_weaker e f same =
     λ time is. subst (λ (b : Buckets). (are_before time b && are_before time f.tx) ≡ true) (sym same.0)
     (subst (λ (b : Buckets). (are_before time e.rx && are_before time b) ≡ true) (sym same.1) is)
 
+entropy_weaker : (e f : entropies.Entropy) → entropy_limits.Same e f → KeepsTime Entropy e f
+entropy_weaker e f same = λ time is. subst (λ (b : Buckets). are_before time b ≡ true) (sym same) is
+
 keeps_again : (k : Kind) (e f g : OwnOf k) → KeepsTime k e f → KeepsTime k f g → KeepsTime k e g
 keeps_again k e f g first second = λ time is. second time (first time is)
 
@@ -208,12 +227,15 @@ leaves_of Block =
 leaves_of Net = leaves_weaker net_limits.Same (KeepsTime Net) net_weaker (service_of Net) (keeps_again Net) net_limits.leaves
 leaves_of Vsock = leaves_any (KeepsTime Vsock) vsock_any (service_of Vsock)
 leaves_of Balloon = leaves_any (KeepsTime Balloon) balloon_any (service_of Balloon)
+leaves_of Entropy =
+    leaves_weaker entropy_limits.Same (KeepsTime Entropy) entropy_weaker (service_of Entropy) (keeps_again Entropy) entropy_limits.leaves
 
 hands_of : (k : Kind) (g : StageOf k) → HandLeaves (KeepsTime k) (hand_of k g)
 hands_of Block g = hand_weaker block_limits.Same (KeepsTime Block) block_weaker (hand_of Block g) (block_limits.hand_leaves g)
 hands_of Net g = hand_weaker net_limits.Same (KeepsTime Net) net_weaker (hand_of Net g) (net_limits.hand_leaves g)
 hands_of Vsock g = hand_any (KeepsTime Vsock) vsock_any (hand_of Vsock g)
 hands_of Balloon g = hand_any (KeepsTime Balloon) balloon_any (hand_of Balloon g)
+hands_of Entropy g = hand_weaker entropy_limits.Same (KeepsTime Entropy) entropy_weaker (hand_of Entropy g) (entropy_limits.hand_leaves g)
 
 -- ---- who is timed wants guest time
 
@@ -329,17 +351,24 @@ balloon_timely (changes.Block c) = tt
 balloon_timely (changes.Net c) = tt
 balloon_timely (changes.Balloon c) = λ time e is. (refl, refl)
 
+entropy_timely : (change : DeviceChange) → LeavesTimely Entropy (change_for change Entropy)
+entropy_timely (changes.Block c) = tt
+entropy_timely (changes.Net c) = tt
+entropy_timely (changes.Balloon c) = tt
+
 change_timely : (k : Kind) (change : DeviceChange) → is_fresh_change change ≡ true → LeavesTimely k (change_for change k)
 change_timely Block change fresh = block_timely change fresh
 change_timely Net change fresh = net_timely change fresh
 change_timely Vsock change fresh = vsock_timely change
 change_timely Balloon change fresh = balloon_timely change
+change_timely Entropy change fresh = entropy_timely change
 
 reset_timely_of : (k : Kind) → LeavesTimely k (reset_for k)
 reset_timely_of Block = tt
 reset_timely_of Net = tt
 reset_timely_of Vsock = λ time e is. (refl, refl)
 reset_timely_of Balloon = tt
+reset_timely_of Entropy = tt
 
 changed_timely : (k : Kind) (c : ChangeOf k) (time : ℕ) (t : Script (DataOf k)) → LeavesTimely k (Some c) → IsTimelyLeft time (left_of k t)
     → IsTimelyLeft time (left_of k (changed_at (device_rules k) c t))
@@ -351,6 +380,9 @@ changed_timely Net c time (Asks d op on) fine was =
     record { now = (fine time d.own was.now).1; stays = (λ t is. is, was.stays.1) }
 changed_timely Vsock c time t fine was = record { now = refl; stays = moves_any (KeepsTime Vsock) vsock_any _ _ }
 changed_timely Balloon c time t fine was = record { now = refl; stays = moves_any (KeepsTime Balloon) balloon_any _ _ }
+changed_timely Entropy c time (Ends d) fine was = record { now = (fine time d.own was.now).0; stays = λ t is. is }
+changed_timely Entropy c time (Asks d op on) fine was =
+    record { now = (fine time d.own was.now).1; stays = (λ t is. is, was.stays.1) }
 
 told_by : (left : DeviceLeft) (c : Option (ChangeOf left.kind)) (time : ℕ) → LeavesTimely left.kind c → IsTimelyLeft time left
     → IsTimelyLeft time (left_told left c)
@@ -415,6 +447,11 @@ pub tx_test : (time : ℕ) (now it : QueueRounds net_work.Kept) (tx : Buckets) �
     → are_before time tx ≡ are_before time it.kind.own.tx
 tx_test time now it tx same is =
     ap (λ (b : Buckets). are_before time b) (is ∙ ap (λ (n : QueueRounds net_work.Kept). n.kind.own.tx) same)
+
+pub entropy_test : (time : ℕ) (now it : QueueRounds entropy_work.Kept) (limits : Buckets) → now ≡ it → limits ≡ now.kind.own.limits
+    → are_before time limits ≡ is_timely time (devices.Entropy it)
+entropy_test time now it limits same is =
+    ap (λ (b : Buckets). are_before time b) (is ∙ ap (λ (n : QueueRounds entropy_work.Kept). n.kind.own.limits) same)
 
 pub both_on : (a b : Bool) → a ≡ true → b ≡ (a && b)
 both_on true b is = refl

@@ -30,6 +30,8 @@ use Rattle.vsock_device.proofs.Resuming as vsock_resuming
 use Rattle.balloon_device.specs.declared.kind.BalloonChange.TheVariants.{Interval}
 use Rattle.balloon_device.proofs.Narrow as balloon
 use Rattle.balloon_device.proofs.Resuming as balloon_resuming
+use Rattle.entropy_device.proofs.Narrow as entropy
+use Rattle.entropy_device.proofs.Resuming as entropy_resuming
 use Rattle.guest_devices.specs.declared.change.DeviceChange.{DeviceChange}
 use Rattle.guest_devices.specs.declared.change.DeviceChange.TheVariants as changes
 use Rattle.guest_devices.specs.declared.device.Device.{Device}
@@ -38,7 +40,7 @@ use Rattle.guest_devices.specs.declared.new_device.NewDevice.{NewDevice}
 use Rattle.guest_devices.specs.Devices.{DataOf, DeviceLeads, DeviceLeft, DeviceWants, FlatDevice, device_at, device_changed, device_did}
 use Rattle.guest_devices.specs.Devices.{device_next, device_reset, device_rules, device_told, device_wants, left_of, left_reset, left_told, new_device, new_left}
 use Rattle.guest_devices.specs.Kept.{IsBounded, IsBoundedDevice, KeptDevice, device_left, device_pages, device_port, is_device_state, is_state_kept, left_by}
-use Rattle.guest_devices.specs.Kinds.{Balloon, Block, ChangeOf, FitsChange, IsSizedOf, IsSmallChange, Kind, Net, OwnOf, Vsock, calls_of, change_for, changing_of, is_sized_work_of}
+use Rattle.guest_devices.specs.Kinds.{Balloon, Block, ChangeOf, Entropy, FitsChange, IsSizedOf, IsSmallChange, Kind, Net, OwnOf, Vsock, calls_of, change_for, changing_of, is_sized_work_of}
 use Rattle.guest_devices.specs.Kinds.{own_at_start, reset_for, service_of, sized_hand_of, sized_in, stage_in, times_of}
 use Rattle.guest_devices.specs.Narrow.{HasNarrow, IsNarrow, IsNarrowDevice, IsNarrowKept, IsNarrowNew, LeavesSized, NarrowLaws}
 use Rattle.guest_devices.proofs.Follows.{at_start, did_leads, reset_leads, told_leads, wants_only}
@@ -129,11 +131,30 @@ balloon_laws = record {
   state = λ p r g is. is;
 }
 
+entropy_changed : (change : DeviceChange) → FitsChange change → IsSmallChange change → LeavesSized Entropy (change_for change Entropy)
+entropy_changed (changes.Block c) fits small = tt
+entropy_changed (changes.Net c) fits small = tt
+entropy_changed (changes.Balloon c) fits small = tt
+
+entropy_laws : NarrowLaws Entropy
+entropy_laws = record {
+  resumes = entropy_resuming.resumes_sized true;
+  changed = entropy_changed;
+  reset = tt;
+  asks = λ e. tt;
+  writes = λ pages w g is. entropy.acts_small g.stage (g.small refl);
+  fine = λ e is. tt;
+  small = λ g. g.small refl;
+  hand = λ g. refl;
+  state = λ p r g is. is;
+}
+
 narrow_laws : (k : Kind) → NarrowLaws k
 narrow_laws Block = block_laws
 narrow_laws Net = net_laws
 narrow_laws Vsock = vsock_laws
 narrow_laws Balloon = balloon_laws
+narrow_laws Entropy = entropy_laws
 
 -- ---- from data to data
 
@@ -303,6 +324,23 @@ narrow_at (device.Balloon b) is bounded narrow = (
     rounds = b.rounds;
     own = b.kind.own;
     stage = sized_in Balloon b.kind.stage narrow.2;
+    is = is;
+    fine = narrow.3;
+    short = narrow.0;
+    narrow = λ yes. narrow.1;
+    at_port = refl;
+    of_pages = refl;
+    left = refl;
+  },
+)
+narrow_at (device.Entropy e) is bounded narrow = (
+  device_left (device.Entropy e),
+  at_start (device_left (device.Entropy e)),
+  record {
+    phase = e.phase;
+    rounds = e.rounds;
+    own = e.kind.own;
+    stage = sized_in Entropy e.kind.stage narrow.2;
     is = is;
     fine = narrow.3;
     short = narrow.0;

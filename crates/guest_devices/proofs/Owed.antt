@@ -26,10 +26,15 @@ use Rattle.vsock_device.specs.declared.kind.Stage.{Stage as VsockStage}
 use Rattle.vsock_device.specs.declared.kind.VsockKind.{VsockKind}
 use Rattle.vsock_device.proofs.Owes as vsock
 use Rattle.vsock_device.proofs.Resuming as vsock_resuming
+use Rattle.entropy_device.specs.declared.kind.Stage.{Stage as EntropyStage}
+use Rattle.entropy_device.specs.Entropy as entropies
+use Rattle.entropy_device.specs.Work as entropy_work
+use Rattle.entropy_device.proofs.Entropy as entropy
+use Rattle.entropy_device.proofs.Resuming as entropy_resuming
 use Rattle.guest_devices.specs.declared.change.DeviceChange.{DeviceChange}
 use Rattle.guest_devices.specs.declared.change.DeviceChange.TheVariants as changes
 use Rattle.guest_devices.specs.declared.device.Device.TheVariants as device
-use Rattle.guest_devices.specs.Kinds.{Balloon, Block, FitsChange, Kind, Net, Vsock, change_for}
+use Rattle.guest_devices.specs.Kinds.{Balloon, Block, Entropy, FitsChange, Kind, Net, Vsock, change_for}
 use Rattle.guest_devices.specs.Sound.{KindLaws, LeavesFine}
 
 -- ---- a block device
@@ -127,6 +132,32 @@ balloon_laws = record {
   held = λ p r e g is. (device.Balloon (balloon_with p r e g), refl);
 }
 
+-- ---- an entropy device
+
+pub entropy_unchanged : (change : DeviceChange) → change_for change Entropy ≡ None
+entropy_unchanged (changes.Block c) = refl
+entropy_unchanged (changes.Net c) = refl
+entropy_unchanged (changes.Balloon c) = refl
+
+entropy_changed : (change : DeviceChange) → FitsChange change → LeavesFine Entropy (change_for change Entropy)
+entropy_changed (changes.Block c) fits = tt
+entropy_changed (changes.Net c) fits = tt
+entropy_changed (changes.Balloon c) fits = tt
+
+abbrev entropy_with : Phase → Rounds → entropies.Entropy → EntropyStage → QueueRounds entropy_work.Kept
+entropy_with p r e g = record { rounds = r; kind = record { own = e; stage = g }; phase = p }
+
+entropy_laws : KindLaws Entropy
+entropy_laws = record {
+  confines = entropy.owes;
+  resumes = entropy_resuming.resumes;
+  changed = entropy_changed;
+  reset = tt;
+  tested = λ e is. tt;
+  tests = λ e fine. refl;
+  held = λ p r e g is. (device.Entropy (entropy_with p r e g), refl);
+}
+
 -- ---- each
 
 pub laws : (k : Kind) → KindLaws k
@@ -134,3 +165,4 @@ laws Block = block_laws
 laws Net = net_laws
 laws Vsock = vsock_laws
 laws Balloon = balloon_laws
+laws Entropy = entropy_laws

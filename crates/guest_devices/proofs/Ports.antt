@@ -1,6 +1,6 @@
 -- Each field of a new device's port has its width.
 use Rattle.std.proofs.Common.{◌≡◌, ◌<◌, ◌^◌, ◌==◌, ℕ, Bool, true, false, not, refl, arith, Option, Some, None, unwrap_or}
-use Rattle.std.proofs.lemmas.List.Elements.{All-append}
+use Rattle.std.proofs.lemmas.List.Elements.{All-append, All-nil}
 use Rattle.std.proofs.lemmas.Nat.{or_lt}
 use Rattle.le_fields.specs.Fields.{IsByte, bytes_of}
 use Rattle.le_fields.proofs.Values.{all_bytes}
@@ -16,6 +16,7 @@ use Rattle.vsock_device.specs.declared.new_vsock.NewVsock.{NewVsock}
 use Rattle.vsock_device.specs.Port as vsock
 use Rattle.balloon_device.specs.declared.new_balloon.NewBalloon.{NewBalloon}
 use Rattle.balloon_device.specs.Port as balloon
+use Rattle.entropy_device.specs.Port as entropy
 use Rattle.guest_devices.specs.declared.drive.NewDrive.{NewDrive}
 use Rattle.guest_devices.specs.declared.new_device.NewDevice.{NewDevice}
 use Rattle.guest_devices.specs.declared.new_device.NewDevice.TheVariants as starts
@@ -65,6 +66,11 @@ balloon_kept b =
     new_stays numbers.Balloon (balloon.offered b) (balloon.config_of b.target 0) (balloon_small b)
     (All-append IsByte (bytes_of 4 b.target) (bytes_of 4 0) (all_bytes 4 b.target) (all_bytes 4 0))
 
+-- ---- an entropy device
+
+entropy_kept : IsKept numbers.Entropy entropy.entropy_port
+entropy_kept = new_stays numbers.Entropy 0 [] (omega arith) (All-nil IsByte)
+
 -- ---- each
 
 pub start_kind : (what : NewDevice) → (port_at_start what).kind ≡ number_of (kind_at_start what)
@@ -72,9 +78,11 @@ start_kind (starts.Block d) = refl
 start_kind (starts.Net n) = refl
 start_kind (starts.Vsock v) = refl
 start_kind (starts.Balloon b) = refl
+start_kind (starts.Entropy e) = refl
 
 pub start_kept : (what : NewDevice) → IsKept (port_at_start what).kind (port_at_start what)
 start_kept (starts.Block d) = block_kept d
 start_kept (starts.Net n) = net_kept n
 start_kept (starts.Vsock v) = vsock_kept v
 start_kept (starts.Balloon b) = balloon_kept b
+start_kept (starts.Entropy e) = entropy_kept

@@ -11,7 +11,7 @@ use Rattle.guest_devices.specs.declared.device.Device.{Device}
 use Rattle.guest_devices.specs.declared.device.Device.TheVariants as device
 use Rattle.guest_devices.specs.Devices.{DataOf, DeviceLeads, DeviceLeft, FlatDevice, device_reset, left_reset}
 use Rattle.guest_devices.specs.Kept.{device_left, is_device_state, is_kept, is_saved}
-use Rattle.guest_devices.specs.Kinds.{Balloon, Block, Kind, Net, Vsock}
+use Rattle.guest_devices.specs.Kinds.{Balloon, Block, Entropy, Kind, Net, Vsock}
 use Rattle.guest_devices.specs.Sound.{IsSoundDevice}
 use Rattle.guest_devices.proofs.Follows.{one_left, reset_leads}
 use Rattle.guest_devices.proofs.Placed.{kept_state}
@@ -23,6 +23,7 @@ RootOf Block t = Unit {0}
 RootOf Net t = Unit {0}
 RootOf Vsock t = IsUnconnected (data_of t).own
 RootOf Balloon t = Unit {0}
+RootOf Entropy t = Unit {0}
 
 abbrev HasRoot : DeviceLeft → Type 0
 HasRoot left = RootOf left.kind left.left
@@ -34,6 +35,7 @@ reset_root (device.Vsock v) is =
     behind_reset v.phase v.rounds v.kind.own v.kind.stage
     (test_parts vsocks.vsock false vsock_work.is_work v.phase v.rounds v.kind.stage is).place
 reset_root (device.Balloon b) is = tt
+reset_root (device.Entropy e) is = tt
 
 saved_root : (now : Device) → is_device_state now ≡ true → HasRoot (device_left now) → is_saved now ≡ true
 saved_root (device.Block b) is has = refl
@@ -43,6 +45,7 @@ saved_root (device.Vsock v) is has =
     let root = root_of vsocks.vsock false vsock_work.hand_of v.phase v.rounds v.kind.own v.kind.stage place in
     test_of v.kind.own (subst (λ (d : Queued VsockData). IsUnconnected d.own) root has)
 saved_root (device.Balloon b) is has = refl
+saved_root (device.Entropy e) is has = refl
 
 pub reset_saved : (it now : Device) → is_device_state it ≡ true → is_device_state now ≡ true
     → device_left now ≡ left_reset (device_left it) → is_saved now ≡ true

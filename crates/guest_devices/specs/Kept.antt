@@ -12,7 +12,7 @@ use Rattle.vsock_device.specs.Reset.{is_unconnected}
 use Rattle.guest_devices.specs.declared.device.Device.{Device}
 use Rattle.guest_devices.specs.declared.device.Device.TheVariants as device
 use Rattle.guest_devices.specs.Devices.{DeviceLeft, device_wants, device_next, left_of, left_reset}
-use Rattle.guest_devices.specs.Kinds.{Balloon, Block, IsFineOf, Kind, Net, OwnOf, StageOf, Vsock, hand_of, is_fine_of, is_work_of, service_of, times_of}
+use Rattle.guest_devices.specs.Kinds.{Balloon, Block, Entropy, IsFineOf, Kind, Net, OwnOf, StageOf, Vsock, hand_of, is_fine_of, is_work_of, service_of, times_of}
 
 -- what is kept of a device: what it is at, its rounds, its data and its kind's work
 pub record KeptDevice : Type 0 where
@@ -33,6 +33,8 @@ kept_of (device.Vsock v) =
     record { kind = Vsock; phase = v.phase; rounds = v.rounds; own = v.kind.own; stage = v.kind.stage }
 kept_of (device.Balloon b) =
     record { kind = Balloon; phase = b.phase; rounds = b.rounds; own = b.kind.own; stage = b.kind.stage }
+kept_of (device.Entropy e) =
+    record { kind = Entropy; phase = e.phase; rounds = e.rounds; own = e.kind.own; stage = e.kind.stage }
 
 -- a file may have this of it: of a vsock device no connection
 abbrev pub is_saved : Device → Bool
@@ -40,6 +42,7 @@ is_saved (device.Block b) = true
 is_saved (device.Net n) = true
 is_saved (device.Vsock v) = is_unconnected v.kind.own
 is_saved (device.Balloon b) = true
+is_saved (device.Entropy e) = true
 
 -- ---- of any kind
 

@@ -34,6 +34,10 @@ use Rattle.balloon_device.specs.declared.kind.Stage.{Stage}
 use Rattle.balloon_device.specs.Balloon as balloons
 use Rattle.balloon_device.specs.Statistics.{no_statistics}
 use Rattle.balloon_device.specs.Work as balloon_work
+use Rattle.entropy_device.specs.declared.kind.EntropyChange.{EntropyChange}
+use Rattle.entropy_device.specs.declared.kind.Stage.{Stage as EntropyStage}
+use Rattle.entropy_device.specs.Entropy as entropies
+use Rattle.entropy_device.specs.Work as entropy_work
 use Rattle.guest_devices.specs.declared.change.DeviceChange.{DeviceChange}
 use Rattle.guest_devices.specs.declared.change.DeviceChange.TheVariants as changes
 use Rattle.guest_devices.specs.declared.new_device.NewDevice.{NewDevice}
@@ -44,6 +48,7 @@ pub data Kind : Type 0 where
   Net : Kind
   Vsock : Kind
   Balloon : Kind
+  Entropy : Kind
 
 -- ---- what a device of this kind is
 
@@ -53,6 +58,7 @@ OwnOf Block = BlockData
 OwnOf Net = nets.Net
 OwnOf Vsock = VsockData
 OwnOf Balloon = balloons.Balloon
+OwnOf Entropy = entropies.Entropy
 
 -- what is changed of it from outside
 abbrev pub ChangeOf : Kind → Type 0
@@ -60,6 +66,7 @@ ChangeOf Block = BlockChange
 ChangeOf Net = NetChange
 ChangeOf Vsock = VsockChange
 ChangeOf Balloon = BalloonChange
+ChangeOf Entropy = EntropyChange
 
 -- what it does with its queues
 abbrev pub service_of : (k : Kind) → Service (OwnOf k)
@@ -67,6 +74,7 @@ service_of Block = block
 service_of Net = nets.net
 service_of Vsock = vsocks.vsock
 service_of Balloon = balloons.balloon
+service_of Entropy = entropies.entropy
 
 -- what a change makes of it
 abbrev pub changing_of : (k : Kind) → Changing (OwnOf k) (ChangeOf k)
@@ -74,6 +82,7 @@ changing_of Block = setting changed
 changing_of Net = setting nets.limited
 changing_of Vsock = resetting
 changing_of Balloon = setting balloons.changed
+changing_of Entropy = setting entropies.unchanged
 
 -- the calls of its host object
 abbrev pub calls_of : Kind → OutOp → Bool
@@ -81,6 +90,7 @@ calls_of Block = is_disk_call
 calls_of Net = nets.is_link_call
 calls_of Vsock = vsocks.is_host_call
 calls_of Balloon = balloons.no_call
+calls_of Entropy = entropies.is_word_call
 
 -- a chain of it may wait for guest time
 abbrev pub times_of : Kind → Bool
@@ -88,6 +98,7 @@ times_of Block = true
 times_of Net = true
 times_of Vsock = false
 times_of Balloon = true
+times_of Entropy = true
 
 -- ---- what it starts with
 
@@ -96,6 +107,7 @@ kind_at_start (starts.Block d) = Block
 kind_at_start (starts.Net n) = Net
 kind_at_start (starts.Vsock v) = Vsock
 kind_at_start (starts.Balloon b) = Balloon
+kind_at_start (starts.Entropy e) = Entropy
 
 abbrev pub own_at_start : (what : NewDevice) → OwnOf (kind_at_start what)
 own_at_start (starts.Block d) =
@@ -103,10 +115,12 @@ own_at_start (starts.Block d) =
 own_at_start (starts.Net n) = record { text = []; rx = n.rx; tx = n.tx }
 own_at_start (starts.Vsock v) = new_data v.guest_cid
 own_at_start (starts.Balloon w) = record { interval = w.interval; last = 0; statistics = no_statistics }
+own_at_start (starts.Entropy e) = record { limits = e.limits }
 
 -- ---- what it is told of
 
--- the change that this is to a device of its kind; to one of another kind it is none. The API changes nothing of a vsock device.
+-- the change that this is to a device of its kind; to one of another kind it is none. The API changes nothing of a vsock device,
+-- and nothing of an entropy device.
 abbrev pub change_for : DeviceChange → (k : Kind) → Option (ChangeOf k)
 change_for (changes.Block c) Block = Some c
 change_for (changes.Net c) Net = Some c
@@ -141,6 +155,7 @@ reset_for Block = None
 reset_for Net = None
 reset_for Vsock = Some Reset
 reset_for Balloon = None
+reset_for Entropy = None
 
 -- ---- what its code keeps
 
@@ -150,12 +165,14 @@ StageOf Block = block_working.Working
 StageOf Net = net_work.AtWork
 StageOf Vsock = VsockStage
 StageOf Balloon = Stage
+StageOf Entropy = EntropyStage
 
 abbrev pub hand_of : (k : Kind) → StageOf k → Hand (OwnOf k)
 hand_of Block = block_working.hand_of
 hand_of Net = net_work.hand_of
 hand_of Vsock = vsock_work.hand_of
 hand_of Balloon = balloon_work.hand_of
+hand_of Entropy = entropy_work.hand_of
 
 -- it may be there
 abbrev pub is_work_of : (k : Kind) → Work → ℕ → StageOf k → Bool
@@ -163,6 +180,7 @@ is_work_of Block = block_kept.is_work
 is_work_of Net = net_work.is_work
 is_work_of Vsock = vsock_work.is_work
 is_work_of Balloon = balloon_work.is_work
+is_work_of Entropy = entropy_work.is_work
 
 -- it may have such data, as a fact and as a test
 abbrev pub IsFineOf : (k : Kind) → OwnOf k → Type 0
@@ -170,12 +188,14 @@ IsFineOf Block e = e.sectors < 2 ^ 64
 IsFineOf Net e = net_work.AnyNet e
 IsFineOf Vsock e = vsock_work.AnyVsock e
 IsFineOf Balloon e = balloon_work.AnyBalloon e
+IsFineOf Entropy e = entropy_work.AnyEntropy e
 
 abbrev pub is_fine_of : (k : Kind) → OwnOf k → Bool
 is_fine_of Block e = nat_lt e.sectors (2 ^ 64)
 is_fine_of Net e = true
 is_fine_of Vsock e = true
 is_fine_of Balloon e = true
+is_fine_of Entropy e = true
 
 -- ---- what it keeps where each reply was small
 
@@ -185,6 +205,7 @@ IsSmallOf Block g = block_working.IsSmallWork g
 IsSmallOf Net g = net_work.IsSmallWork g
 IsSmallOf Vsock g = vsock_small.IsSmallStage g
 IsSmallOf Balloon g = balloon_work.IsSmallStage g
+IsSmallOf Entropy g = entropy_work.IsSmallStage g
 
 -- both
 abbrev pub SizedOf : Kind → Type 0
@@ -192,30 +213,35 @@ SizedOf Block = block_working.SizedWork true
 SizedOf Net = net_work.SizedWork true
 SizedOf Vsock = vsock_small.SizedStage true
 SizedOf Balloon = balloon_work.SizedStage true
+SizedOf Entropy = entropy_work.SizedStage true
 
 abbrev pub sized_in : (k : Kind) (g : StageOf k) → IsSmallOf k g → SizedOf k
 sized_in Block g small = record { work = g; small = λ yes. small }
 sized_in Net g small = record { work = g; small = λ yes. small }
 sized_in Vsock g small = record { stage = g; small = λ yes. small }
 sized_in Balloon g small = record { stage = g; small = λ yes. small }
+sized_in Entropy g small = record { stage = g; small = λ yes. small }
 
 abbrev pub stage_in : (k : Kind) → SizedOf k → StageOf k
 stage_in Block g = g.work
 stage_in Net g = g.work
 stage_in Vsock g = g.stage
 stage_in Balloon g = g.stage
+stage_in Entropy g = g.stage
 
 abbrev pub sized_hand_of : (k : Kind) → SizedOf k → Hand (OwnOf k)
 sized_hand_of Block = block_working.sized_hand true
 sized_hand_of Net = net_work.sized_hand true
 sized_hand_of Vsock = vsock_small.sized_hand true
 sized_hand_of Balloon = balloon_work.sized_hand true
+sized_hand_of Entropy = entropy_work.sized_hand true
 
 abbrev pub is_sized_work_of : (k : Kind) → Work → ℕ → SizedOf k → Bool
 is_sized_work_of Block = block_states.is_sized_work
 is_sized_work_of Net = net_work.is_sized_work true
 is_sized_work_of Vsock = vsock_small.is_sized_work true
 is_sized_work_of Balloon = balloon_work.is_sized_work true
+is_sized_work_of Entropy = entropy_work.is_sized_work true
 
 -- its data
 abbrev pub IsSizedOf : (k : Kind) → OwnOf k → Type 0
@@ -223,6 +249,7 @@ IsSizedOf Block = block_working.IsSizedData true
 IsSizedOf Net = net_work.IsSizedData true
 IsSizedOf Vsock = vsock_small.IsSizedData true
 IsSizedOf Balloon = balloon_work.IsSizedData true
+IsSizedOf Entropy = entropy_work.IsSizedData true
 
 -- and the numbers of a change that they don't fit by themselves
 abbrev pub IsSmallChange : DeviceChange → Type 0

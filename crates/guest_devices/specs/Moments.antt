@@ -12,7 +12,7 @@ use Rattle.guest_devices.specs.declared.device.Device.{Device}
 use Rattle.guest_devices.specs.declared.new_device.NewDevice.{NewDevice}
 use Rattle.guest_devices.specs.Devices.{DataOf, DeviceLeads, DeviceLeft, FitsNew, FlatDevice}
 use Rattle.guest_devices.specs.Kept.{kept_of}
-use Rattle.guest_devices.specs.Kinds.{Balloon, Block, FitsChange, Kind, Net, OwnOf, Vsock, kind_at_start, own_at_start}
+use Rattle.guest_devices.specs.Kinds.{Balloon, Block, Entropy, FitsChange, Kind, Net, OwnOf, Vsock, kind_at_start, own_at_start}
 
 -- the newest request of a bucket passed at this time, or before
 abbrev pub is_before : ℕ → Option Kept → Bool
@@ -28,6 +28,7 @@ is_timely_of Block time e = are_before time e.limits
 is_timely_of Net time e = are_before time e.rx && are_before time e.tx
 is_timely_of Vsock time e = true
 is_timely_of Balloon time e = true
+is_timely_of Entropy time e = are_before time e.limits
 
 abbrev pub is_timely : ℕ → Device → Bool
 is_timely time d = is_timely_of (kept_of d).kind time (kept_of d).own

@@ -12,12 +12,13 @@ use Rattle.block_device.specs.declared.kind.BlockChange.TheVariants.{Limits, Sec
 use Rattle.net_device.specs.Port.{net_port}
 use Rattle.vsock_device.specs.Port.{vsock_port}
 use Rattle.balloon_device.specs.Port.{balloon_port}
+use Rattle.entropy_device.specs.Port.{entropy_port}
 use Rattle.guest_devices.specs.declared.change.DeviceChange.{DeviceChange}
 use Rattle.guest_devices.specs.declared.change.DeviceChange.TheVariants as changes
 use Rattle.guest_devices.specs.declared.drive.NewDrive.{NewDrive}
 use Rattle.guest_devices.specs.declared.new_device.NewDevice.{NewDevice}
 use Rattle.guest_devices.specs.declared.new_device.NewDevice.TheVariants as starts
-use Rattle.guest_devices.specs.Kinds.{Balloon, Block, Kind, Net, Vsock}
+use Rattle.guest_devices.specs.Kinds.{Balloon, Block, Entropy, Kind, Net, Vsock}
 
 -- ---- a block device
 
@@ -43,12 +44,14 @@ number_of Block = numbers.Block
 number_of Net = numbers.Net
 number_of Vsock = numbers.Vsock
 number_of Balloon = numbers.Balloon
+number_of Entropy = numbers.Entropy
 
 abbrev pub port_at_start : NewDevice → PortState
 port_at_start (starts.Block d) = block_port d
 port_at_start (starts.Net n) = net_port n
 port_at_start (starts.Vsock v) = vsock_port v
 port_at_start (starts.Balloon b) = balloon_port b
+port_at_start (starts.Entropy e) = entropy_port
 
 -- the configuration that the port shows from a change on, if it shows the change
 abbrev pub shown_by : DeviceChange → Option (List ℕ)

@@ -10,6 +10,9 @@ use crate::balloon::{
 };
 use crate::block::{block_again, give_block, new_block, port_of_block, tell_block, want_of_block};
 use crate::change::DeviceChange;
+use crate::entropy::{
+    entropy_again, give_entropy, new_entropy, port_of_entropy, tell_entropy, want_of_entropy,
+};
 use crate::net::{give_net, net_again, new_net, port_of_net, tell_net, want_of_net};
 use crate::new_device::NewDevice;
 use crate::timely::are_before;
@@ -18,6 +21,7 @@ use crate::vsock::{
 };
 use balloon_device::BalloonDevice;
 use block_device::Block;
+use entropy_device::EntropyDevice;
 use net_device::NetDevice;
 use port_table::DeviceKind;
 use vm_types::{Actor, Op, Reply};
@@ -30,6 +34,7 @@ pub enum Device {
     Net(NetDevice),
     Vsock(VsockDevice),
     Balloon(BalloonDevice),
+    Entropy(EntropyDevice),
 }
 
 impl Device {
@@ -42,6 +47,7 @@ impl Device {
             NewDevice::Net(what) => Device::Net(new_net(port, pages, what)),
             NewDevice::Vsock(what) => Device::Vsock(new_vsock(port, pages, what)),
             NewDevice::Balloon(what) => Device::Balloon(new_balloon(port, pages, what)),
+            NewDevice::Entropy(what) => Device::Entropy(new_entropy(port, pages, what)),
         }
     }
 
@@ -55,6 +61,7 @@ impl Device {
             Device::Net(net) => port_of_net(net),
             Device::Vsock(vsock) => port_of_vsock(vsock),
             Device::Balloon(balloon) => port_of_balloon(balloon),
+            Device::Entropy(entropy) => port_of_entropy(entropy),
         }
     }
 
@@ -67,6 +74,7 @@ impl Device {
             Device::Net(_) => DeviceKind::Net,
             Device::Vsock(_) => DeviceKind::Vsock,
             Device::Balloon(_) => DeviceKind::Balloon,
+            Device::Entropy(_) => DeviceKind::Entropy,
         }
     }
 
@@ -79,6 +87,7 @@ impl Device {
             Device::Net(net) => net.state().rounds.pages,
             Device::Vsock(vsock) => vsock.state().rounds.pages,
             Device::Balloon(balloon) => balloon.state().rounds.pages,
+            Device::Entropy(entropy) => entropy.state().rounds.pages,
         }
     }
 
@@ -94,6 +103,7 @@ impl Device {
             }
             Device::Vsock(_) => true,
             Device::Balloon(_) => true,
+            Device::Entropy(entropy) => are_before(time, entropy.state().kind.limits()),
         }
     }
 
@@ -107,10 +117,11 @@ impl Device {
             Device::Net(net) => Device::Net(net_again(net)),
             Device::Vsock(vsock) => Device::Vsock(vsock_again(vsock)),
             Device::Balloon(balloon) => Device::Balloon(balloon_again(balloon)),
+            Device::Entropy(entropy) => Device::Entropy(entropy_again(entropy)),
         }
     }
 
-    /// A change of its kind. One of another kind is none, and each is to a vsock device.
+    /// A change of its kind. One of another kind is none, and each is to a vsock device and to an entropy device.
     pub fn change(&mut self, change: DeviceChange)
         ensures { device_left self.new ≡ device_changed change (device_left self.old) }
     {
@@ -119,6 +130,7 @@ impl Device {
             Device::Net(net) => tell_net(net, change),
             Device::Vsock(vsock) => tell_vsock(vsock, change),
             Device::Balloon(balloon) => tell_balloon(balloon, change),
+            Device::Entropy(entropy) => tell_entropy(entropy, change),
         }
     }
 
@@ -130,6 +142,7 @@ impl Device {
             Device::Net(_) => {}
             Device::Vsock(vsock) => reset_vsock(vsock),
             Device::Balloon(_) => {}
+            Device::Entropy(_) => {}
         }
     }
 
@@ -164,6 +177,7 @@ impl Actor for Device {
             Device::Net(net) => want_of_net(net),
             Device::Vsock(vsock) => want_of_vsock(vsock),
             Device::Balloon(balloon) => want_of_balloon(balloon),
+            Device::Entropy(entropy) => want_of_entropy(entropy),
         }
     }
 
@@ -173,6 +187,7 @@ impl Actor for Device {
             Device::Net(net) => give_net(net, reply),
             Device::Vsock(vsock) => give_vsock(vsock, reply),
             Device::Balloon(balloon) => give_balloon(balloon, reply),
+            Device::Entropy(entropy) => give_entropy(entropy, reply),
         }
     }
 }

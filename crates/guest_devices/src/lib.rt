@@ -12,6 +12,7 @@ mod block;
 mod change;
 mod device;
 mod drive;
+mod entropy;
 mod law;
 mod net;
 mod new_device;

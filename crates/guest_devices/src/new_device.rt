@@ -2,6 +2,7 @@
 
 use crate::drive::NewDrive;
 use balloon_device::NewBalloon;
+use entropy_device::NewEntropy;
 use net_device::NewNet;
 use vsock_device::NewVsock;
 
@@ -12,4 +13,5 @@ pub enum NewDevice {
     Net(NewNet),
     Vsock(NewVsock),
     Balloon(NewBalloon),
+    Entropy(NewEntropy),
 }

@@ -1,6 +1,7 @@
 // The port of a device that has done nothing, by its kind, and what it shows of a change.
 ghost use Rattle.std.specs.Prelude.{◌≡◌};
 ghost use Rattle.balloon_device.specs.Port as balloon;
+ghost use Rattle.entropy_device.specs.Port as entropy;
 ghost use Rattle.net_device.specs.Port as net;
 ghost use Rattle.vsock_device.specs.Port as vsock;
 ghost use Rattle.guest_devices.specs.declared.new_device.NewDevice.{NewDevice};
@@ -14,6 +15,7 @@ use crate::drive::NewDrive;
 use crate::new_device::NewDevice;
 use balloon_device::{NewBalloon, configuration as balloon_configuration};
 use block_device::BlockChange;
+use entropy_device::NewEntropy;
 use le_fields::put64;
 use mmio_port::Port;
 use net_device::{NewNet, configuration as net_configuration};
@@ -79,6 +81,15 @@ fn balloon_port(what: &NewBalloon) -> Port
     )
 }
 
+// It has no configuration.
+fn entropy_port(what: &NewEntropy) -> Port
+    ensures port { result ≡ entropy.entropy_port }
+    ensures fits { (new : NewDevice) → new ≡ starts.Entropy what.now → FitsNew new }
+{
+    let _ = what;
+    Port::new(DeviceKind::Entropy, 0, &[])
+}
+
 /// The port of a device as a start makes it. What the device starts with fits.
 pub fn port_at_start(what: &NewDevice) -> Port
     ensures port { result ≡ ports.port_at_start what.now }
@@ -89,6 +100,7 @@ pub fn port_at_start(what: &NewDevice) -> Port
         NewDevice::Net(what) => net_port(what),
         NewDevice::Vsock(what) => vsock_port(what),
         NewDevice::Balloon(what) => balloon_port(what),
+        NewDevice::Entropy(what) => entropy_port(what),
     }
 }
 

@@ -5,6 +5,7 @@ use outside_real::counted::counted;
 use serve_host::Words;
 use std::io;
 use std::random::RandomSource;
+use vm_host::GuestWords;
 use vm_outside::Failed;
 
 /// Draws each word anew from the system.
@@ -35,6 +36,18 @@ impl<'a, R: RandomSource> Words for RandomWords<'a, R> {
     ghost known = { λ w. record { health = untold w.faults; left = λ n. 0 } };
 
     fn next(&mut self) -> Result<u64, Failed> {
+        counted(&mut self.faults, draw(self.rt))
+    }
+}
+
+impl<'a, R: RandomSource> GuestWords for RandomWords<'a, R> {
+    ghost use Rattle.outside_real.specs.Counting.{untold};
+
+    ghost known = { λ w. record { health = untold w.faults; left = λ device n. 0 } };
+
+    /// A device is given words that no other one is.
+    fn word(&mut self, device: u8) -> Result<u64, Failed> {
+        let _ = device;
         counted(&mut self.faults, draw(self.rt))
     }
 }

@@ -68,6 +68,7 @@ impl Bench {
             Subject::Fillers => fillers::add(&mut self.memory, command, text),
             Subject::Nets => kinds::add_net(&mut self.memory, command, text),
             Subject::Balloons => kinds::add_balloon(&mut self.memory, command, text),
+            Subject::Entropies => kinds::add_entropy(&mut self.memory, command, text),
             Subject::Places => places::add(command, text),
             Subject::Pages => pages::add(alloc, &mut self.page, command, text),
             Subject::Boards => boards::add(alloc, &mut self.board, command, text),

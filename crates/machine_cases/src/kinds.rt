@@ -1,4 +1,4 @@
-// What a network device and a balloon do, over a small memory.
+// What a network device, a balloon and an entropy device do, over a small memory.
 mod answering;
 mod laying;
 
@@ -6,6 +6,7 @@ use crate::chains::memory::PAGES;
 use crate::kinds::answering::{Outside, answered};
 use crate::kinds::laying::{Setting, setting_from};
 use balloon_device::{BalloonChange, BalloonKind};
+use entropy_device::EntropyKind;
 use net_device::NetKind;
 use queue_device::QueueRounds;
 use rate_gate::{Bucket, RateGate};
@@ -38,6 +39,17 @@ pub fn add_balloon(memory: &mut [u8], case: &str, text: &mut String) -> Result<(
         let acts = setting.acts - setting.change;
         return act(&mut device, &mut outside, memory, acts, text);
     }
+    act(&mut device, &mut outside, memory, setting.acts, text)
+}
+
+/// Puts the letters of an entropy device's acts at the end.
+pub fn add_entropy(memory: &mut [u8], case: &str, text: &mut String) -> Result<(), AllocError> {
+    let Some(setting) = setting_from(memory, case) else {
+        return text.push_str("none");
+    };
+    let kind = EntropyKind::new(RateGate::new(bucket(&setting), None));
+    let mut device = QueueRounds::new(0, PAGES, kind);
+    let mut outside = Outside::new(&setting);
     act(&mut device, &mut outside, memory, setting.acts, text)
 }
 

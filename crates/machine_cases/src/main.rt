@@ -1,5 +1,5 @@
-//! Tells what instructions, ports, chains, fillers, network devices, balloons, pages, boards, timers and harts do, by tables, for the gate to
-//! compare with `stdout`. What they do is proved; the values here say that the definitions mean what the manuals say.
+//! Tells what instructions, ports, chains, fillers, network devices, balloons, entropy devices, pages, boards, timers and harts do, by tables,
+//! for the gate to compare with `stdout`. What they do is proved; the values here say that the definitions mean what the manuals say.
 //!
 //! A table is a file of `data/`, and each of its lines is a case, as the README of its folder says. Those of
 //! instructions and ports have behind ` = ` what is wanted: a case is printed where its answer differs, and below them

@@ -56,6 +56,7 @@ fn kind_of(name: &str) -> Option<DeviceKind> {
         "block" => Some(DeviceKind::Block),
         "balloon" => Some(DeviceKind::Balloon),
         "vsock" => Some(DeviceKind::Vsock),
+        "entropy" => Some(DeviceKind::Entropy),
         _ => None,
     }
 }

@@ -15,6 +15,7 @@ pub enum Subject {
     Fillers,
     Nets,
     Balloons,
+    Entropies,
     Places,
     Pages,
     Boards,
@@ -32,7 +33,7 @@ impl Subject {
     }
 }
 
-pub const TABLES: [(&str, Subject); 27] = [
+pub const TABLES: [(&str, Subject); 28] = [
     ("instructions/names", Subject::Words(Asked::Name)),
     ("instructions/corners", Subject::Words(Asked::Name)),
     ("instructions/opcodes", Subject::Words(Asked::DecodedName)),
@@ -55,6 +56,7 @@ pub const TABLES: [(&str, Subject); 27] = [
     ("fillers/sequences", Subject::Fillers),
     ("nets/sequences", Subject::Nets),
     ("balloons/sequences", Subject::Balloons),
+    ("entropies/sequences", Subject::Entropies),
     ("machines/places", Subject::Places),
     ("machines/pages", Subject::Pages),
     ("machines/boards", Subject::Boards),

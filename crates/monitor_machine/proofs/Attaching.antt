@@ -9,7 +9,7 @@ use Rattle.vm_config.specs.declared.config.Config.{Config}
 use Rattle.flat_guest.specs.Guest.{Guest}
 use Rattle.flat_machine.specs.Machine.{Machine}
 use Rattle.monitor_machine.specs.declared.machine.LiveMachine.{LiveMachine}
-use Rattle.monitor_machine.specs.Kinds.{disks, links, vsocks}
+use Rattle.monitor_machine.specs.Kinds.{disks, links, vsocks, words}
 use Rattle.monitor_machine.specs.Objects.{AreNamed, AreNamedBy, Named, ObjectKind, Uncalled}
 use Rattle.monitor_machine.specs.State.{IsLive}
 
@@ -38,6 +38,12 @@ vsocks_beside = record {
     answers = behind.answers ∙ first.answers;
     done = behind.done ∙ first.done;
   };
+}
+
+pub words_beside : BesideLaw words
+words_beside = record {
+  none = λ a. record { left = refl };
+  more = λ a b c first behind. record { left = behind.left ∙ first.left };
 }
 
 module _ {K : Type 0} (kind : ObjectKind K) (law : BesideLaw kind) where

@@ -128,7 +128,7 @@ taken_of : (live : Live) → IsReadyLive live → IsTaken live.config
 taken_of live (m, own, ready) = subst (λ (c : Config). IsTaken c) (sym own.config_is) ready.taken
 
 -- other drives
-pub drives_stay : (live : Live) (drives : List Drive) → AreFitting drives live.config.interfaces live.config.vsock live.config.balloon → live.guest ≡ None
+pub drives_stay : (live : Live) (drives : List Drive) → AreFitting drives live.config.interfaces live.config.vsock live.config.balloon live.config.entropy → live.guest ≡ None
     → IsReadyLive live → IsReadyLive (record live { config = record live.config { drives = drives; configured = true } })
 drives_stay live drives fit none is =
     let taken = taken_of live is in
@@ -141,13 +141,14 @@ drives_stay live drives fit none is =
       mmds = taken.mmds;
       machine = taken.machine;
       balloon = taken.balloon;
+      entropy = taken.entropy;
       room = fit.1;
     })
     none is
 
 -- other interfaces
 pub interfaces_stay : (live : Live) (interfaces : List Interface)
-    → AreLinked live.config.drives interfaces live.config.vsock live.config.balloon live.config.mmds
+    → AreLinked live.config.drives interfaces live.config.vsock live.config.balloon live.config.entropy live.config.mmds
     → live.guest ≡ None → IsReadyLive live
     → IsReadyLive (record live { config = record live.config { interfaces = interfaces; configured = true } })
 interfaces_stay live interfaces fit none is =
@@ -161,6 +162,7 @@ interfaces_stay live interfaces fit none is =
       mmds = fit.2;
       machine = taken.machine;
       balloon = taken.balloon;
+      entropy = taken.entropy;
       room = fit.1;
     })
     none is

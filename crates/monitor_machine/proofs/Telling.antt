@@ -53,6 +53,7 @@ left_tells (device.Balloon b) p kept =
 left_tells (device.Block b) p kept = refl
 left_tells (device.Net n) p kept = refl
 left_tells (device.Vsock v) p kept = refl
+left_tells (device.Entropy e) p kept = refl
 
 -- ---- what the balloon of a world tells is what the guest's does
 

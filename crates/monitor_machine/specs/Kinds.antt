@@ -1,4 +1,4 @@
--- The host objects that devices ask: the disks, the links, and the host's end of the vsock device.
+-- The host objects that devices ask: the disks, the links, the host's end of the vsock device, and words.
 use Rattle.std.specs.Prelude.{ℕ, ◌≡◌, ◌-◌, Bool, true, false, if◌then◌else◌, nat_lt, List, Option, Some, None, length, option_map, slice_get}
 use Rattle.api_calls.specs.declared.call.Drive.{Drive}
 use Rattle.api_calls.specs.declared.interface.Interface.{Interface}
@@ -6,13 +6,15 @@ use Rattle.api_calls.specs.declared.vsock.Vsock.{Vsock}
 use Rattle.vm_config.specs.declared.config.Config.{Config}
 use Rattle.vm_config.specs.Drives.{in_order}
 use Rattle.vm_types.specs.declared.op.OutOp.{OutOp}
-use Rattle.vm_types.specs.declared.op.OutOp.TheVariants.{DiskFlush, DiskRead, DiskWrite, HostClose, HostDial, HostNext, HostSend, LinkEnd, LinkPart, LinkSend, LinkTake}
+use Rattle.vm_types.specs.declared.op.OutOp.TheVariants.{DiskFlush, DiskRead, DiskWrite, DrawWord, HostClose, HostDial, HostNext, HostSend, LinkEnd, LinkPart, LinkSend, LinkTake}
 use Rattle.vm_types.specs.declared.reply.Reply.{Reply}
 use Rattle.vm_host.specs.Devices.{ChangesAt}
 use Rattle.vm_host.specs.Framing.{Drops, IsPiece, LinkKnown, SendsFrame, SendsPart, Takes, Wire}
+use Rattle.vm_host.specs.Giving.{GivesWord, GuestWordsKnown}
 use Rattle.vm_host.specs.Hosting.{Dials, Does, Happens, VsockKnown}
 use Rattle.vm_host.specs.Hosting as hosting
 use Rattle.vm_host.specs.Storing.{DiskKnown, FlushesDisk, IsPart, MayFlushDisk, MayWriteDisk, SameDisks, WritesDisk}
+use Rattle.vm_host.specs.declared.attached.Attached.TheVariants as attached
 use Rattle.vm_host.specs.declared.vsock_host.HostAct.TheVariants as done
 use Rattle.vm_host.specs.declared.vsock_host.HostEvent.TheVariants as event
 use Rattle.device_trace.specs.Acts.{is_disk_call}
@@ -141,6 +143,34 @@ vsocks = record {
   Holds = VsockHolds;
 }
 
+-- ---- words for entropy devices
+
+abbrev pub is_word_call : OutOp → Bool
+is_word_call DrawWord = true
+is_word_call act = false
+
+-- no device's words are attached by a name
+pub record SameWords (old new : GuestWordsKnown) : Type 0 where
+  pub left : new.left ≡ old.left
+
+pub record GivesIt (device word : ℕ) (old new : GuestWordsKnown) : Type 0 where
+  pub left : GivesWord device word old.left new.left
+
+abbrev pub WordHolds : ℕ → OutOp → Reply → GuestWordsKnown → GuestWordsKnown → Type 0
+WordHolds device DrawWord (Reply.Drawn word) old new = GivesIt device word old new
+WordHolds device act reply old new = SameWords old new
+
+abbrev pub words : ObjectKind GuestWordsKnown
+words = record {
+  health = λ words. words.health;
+  names = λ words k. attached.Nothing;
+  configured = λ config k. None;
+  is_call = is_word_call;
+  Same = SameWords;
+  Beside = SameWords;
+  Holds = WordHolds;
+}
+
 -- ---- all of them
 
 -- what is known of each
@@ -148,3 +178,4 @@ pub record DevicesKnown : Type 0 where
   pub disk : DiskKnown
   pub link : LinkKnown
   pub vsock : VsockKnown
+  pub words : GuestWordsKnown

@@ -41,6 +41,7 @@ pub fn reply_given(given: &HostReply) -> Option<Reply>
         HostReply::Dialled { connection } => Reply::Dialled {
             connection: *connection,
         },
+        HostReply::Word { word } => Reply::Drawn { word: *word },
     };
     Some(reply)
 }

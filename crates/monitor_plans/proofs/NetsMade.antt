@@ -1,9 +1,10 @@
 -- The devices of interfaces: what they start with, and their numbers.
-use Rattle.std.proofs.Common.{◌≡◌, ◌≤◌, ◌<◌, ℕ, zero, suc, true, refl, sym, ap, ◌∙◌, List, [], ◌∷◌, ◌++◌, append_assoc, length, map, Option, Some, get_or, slice_get, arith}
+use Rattle.std.proofs.Common.{◌≡◌, ◌≤◌, ◌<◌, ℕ, zero, suc, true, refl, sym, ap, subst, ◌∙◌, List, [], ◌∷◌, ◌++◌, append_assoc, length, map, Option, Some, get_or, slice_get, arith}
 use Rattle.std.specs.List.{list_all}
 use Rattle.std.proofs.lemmas.Bool.{and_parts}
 use Rattle.std.proofs.lemmas.List.{append-nil}
 use Rattle.api_calls.specs.declared.balloon.Balloon.{Balloon}
+use Rattle.api_calls.specs.declared.entropy.Entropy.{Entropy}
 use Rattle.api_calls.specs.declared.interface.Interface.{Interface}
 use Rattle.api_calls.specs.declared.vsock.Vsock.{Vsock}
 use Rattle.api_calls.specs.Form.{holds}
@@ -14,10 +15,10 @@ use Rattle.vm_config.specs.Interfaces.{id_of_interface}
 use Rattle.vm_config.specs.Named.{are_apart}
 use Rattle.vm_config.proofs.DeviceLemmas.{counted, interface_at}
 use Rattle.guest_devices.specs.declared.new_device.NewDevice.{NewDevice}
-use Rattle.snap_state.specs.Valid.{is_interface}
+use Rattle.snap_state.specs.Valid.{is_entropy, is_interface}
 use Rattle.flat_machine.specs.Ready.{IsTaken}
 use Rattle.flat_machine.proofs.Taken.{bounded}
-use Rattle.monitor_plans.specs.Starting.{net_start, with_balloon, with_others, with_vsock}
+use Rattle.monitor_plans.specs.Starting.{net_start, with_balloon, with_entropy, with_others, with_vsock}
 
 -- ---- an address
 
@@ -61,13 +62,18 @@ pub one_pushed : (old mid new : List NewDevice) (first : Interface) (others : Li
 one_pushed old mid new first others put more =
     more ∙ ap (λ (l : List NewDevice). l ++ map net_start others) put ∙ append_assoc old (net_start first ∷ []) (map net_start others)
 
-pub others_with : (found linked socketed all : List NewDevice) (interfaces own : List Interface) (vsock : Option Vsock)
-    (balloon : Option Balloon) → own ≡ interfaces → linked ≡ found ++ map net_start own → socketed ≡ with_vsock linked vsock
-    → all ≡ with_balloon socketed balloon → all ≡ with_others found interfaces vsock balloon
-others_with found linked socketed all interfaces own vsock balloon same put next is =
-    is ∙ ap (λ (l : List NewDevice). with_balloon l balloon) next
-    ∙ ap (λ (l : List NewDevice). with_balloon (with_vsock l vsock) balloon) put
-    ∙ ap (λ (l : List Interface). with_balloon (with_vsock (found ++ map net_start l) vsock) balloon) same
+pub entropy_taken : (config : Config) (e : Entropy) → config.entropy ≡ Some e → IsTaken config → is_entropy e ≡ true
+entropy_taken config e there taken = subst (λ (o : Option Entropy). holds is_entropy o ≡ true) there taken.entropy
+
+pub others_with : (found linked socketed inflated all : List NewDevice) (interfaces own : List Interface) (vsock : Option Vsock)
+    (balloon : Option Balloon) (entropy : Option Entropy) → own ≡ interfaces → linked ≡ found ++ map net_start own
+    → socketed ≡ with_vsock linked vsock → inflated ≡ with_balloon socketed balloon → all ≡ with_entropy inflated entropy
+    → all ≡ with_others found interfaces vsock balloon entropy
+others_with found linked socketed inflated all interfaces own vsock balloon entropy same put next more is =
+    is ∙ ap (λ (l : List NewDevice). with_entropy l entropy) more
+    ∙ ap (λ (l : List NewDevice). with_entropy (with_balloon l balloon) entropy) next
+    ∙ ap (λ (l : List NewDevice). with_entropy (with_balloon (with_vsock l vsock) balloon) entropy) put
+    ∙ ap (λ (l : List Interface). with_entropy (with_balloon (with_vsock (found ++ map net_start l) vsock) balloon) entropy) same
 
 -- ---- numbers
 

@@ -28,6 +28,7 @@ use Rattle.flat_snapshot.specs.Carried.{carried_config, carried_guest}
 use Rattle.flat_snapshot.specs.Copies.{configuration_of}
 use Rattle.flat_snapshot.proofs.CarriedReady.{carried_ready}
 use Rattle.flat_snapshot.proofs.GoesOn.{carried_sound}
+use Rattle.snap_state.specs.Sections.{entropy_in}
 use Rattle.flat_machine.specs.Ready.{IsTaken}
 use Rattle.flat_machine.specs.Requests.{loads_from}
 use Rattle.flat_machine.proofs.Sizes.{booted_size}
@@ -41,7 +42,7 @@ some_source (Some own) there = (own, refl)
 
 pub start_ready : (config : Config) (image : List ℕ) (disk : Option (List ℕ)) (devices : List NewDevice) (w : WorldValue) → IsTaken config
     → is_some config.boot_source ≡ true → length devices ≡ device_count config
-    → kinds_at_start devices ≡ kinds_of (configuration_of config) → All IsGivenNew devices
+    → kinds_at_start devices ≡ kinds_of (configuration_of config) config.entropy → All IsGivenNew devices
     → loads_fit config.machine.mem_size_mib (length image) (option_map length disk) ≡ true
     → IsWorld w (started config.machine.vcpu_count config.machine.mem_size_mib (loads_from config image disk) devices)
     → HasReadyGuest (changed config call.InstanceStart) false w
@@ -65,6 +66,7 @@ start_ready config image disk devices w taken there many kinds fit fits is =
             mmds = own.mmds;
             machine = own.machine;
             balloon = own.balloon;
+            entropy = own.entropy;
             room = own.room;
           };
           shaped =
@@ -80,7 +82,7 @@ start_ready config image disk devices w taken there many kinds fit fits is =
     )
 
 pub load_ready : (copy : StateCopy) (pages : List PageValue) (tracking : Bool) (config : Config) (w : WorldValue) → IsTrue (is_valid copy)
-    → length (flat_of pages).bytes ≡ page_size * copy.pages → config ≡ carried_config tracking copy.configuration
+    → length (flat_of pages).bytes ≡ page_size * copy.pages → config ≡ carried_config tracking copy.configuration (entropy_in copy.sections)
     → IsWorld w (carried_guest copy (flat_of pages).bytes) → HasReadyGuest config true w
 load_ready copy pages tracking config w valid whole same is =
     subst (λ (c : Config). HasReadyGuest c true w) (sym same) (

@@ -35,9 +35,9 @@ plan_answer plan.NoMemory told = refused refusal.OutOfMemory
 -- what it makes of this configuration is as the API takes it
 abbrev pub IsFittingPlan : Plan → Config → Type 0
 IsFittingPlan (plan.Changes it) config = IsFitting config it
-IsFittingPlan (plan.Drives drives) config = AreFitting drives config.interfaces config.vsock config.balloon
+IsFittingPlan (plan.Drives drives) config = AreFitting drives config.interfaces config.vsock config.balloon config.entropy
 IsFittingPlan (plan.Interfaces interfaces) config =
-    AreLinked config.drives interfaces config.vsock config.balloon config.mmds
+    AreLinked config.drives interfaces config.vsock config.balloon config.entropy config.mmds
 IsFittingPlan (plan.Resizes r) config = IsFitting config (call.PatchDrive r.patch)
 IsFittingPlan it config = Unit {0}
 

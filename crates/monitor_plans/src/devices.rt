@@ -2,6 +2,7 @@
 ghost use Rattle.std.specs.Prelude.{All, ◌≡◌, ◌++◌, true, IfOk, OnOk, length, map};
 ghost use Rattle.flat_guest.specs.Shaped.{kinds_at_start};
 ghost use Rattle.flat_machine.specs.Ready.{IsTaken};
+ghost use Rattle.flat_machine.specs.Entropy.{new_entropy};
 ghost use Rattle.flat_machine.specs.Vsock.{new_vsock};
 ghost use Rattle.flat_machine.specs.Requests.{devices_from, have_files};
 ghost use Rattle.flat_snapshot.specs.Copies.{configuration_of};
@@ -11,15 +12,17 @@ ghost use Rattle.snap_state.specs.Valid.{kinds_of};
 ghost use Rattle.vm_config.specs.Devices.{device_count};
 ghost use Rattle.vm_outside.specs.Filing.{SameFiles};
 ghost use Rattle.vm_outside.specs.Known.{Lasts, Tells};
-ghost use Rattle.snap_state.specs.Valid.{is_interface};
+ghost use Rattle.snap_state.specs.Valid.{is_entropy, is_interface};
 ghost use Rattle.std.specs.List.{list_all};
-ghost use Rattle.monitor_plans.specs.Starting.{net_start, with_balloon, with_others, with_vsock};
+ghost use Rattle.monitor_plans.specs.Starting.{net_start, with_balloon, with_entropy, with_others, with_vsock};
 
 use crate::balloon::new_balloon;
 use crate::drives::{DriveFiles, drive_files};
+use crate::limits::gate_of;
 use crate::nets::new_net;
-use api_calls::{Interface, Vsock};
+use api_calls::{Entropy, Interface, Vsock};
 use api_rules::Config;
+use entropy_device::NewEntropy;
 use gate_file::FileError;
 use guest_devices::NewDevice;
 use std::alloc::{AllocError, Global};
@@ -81,7 +84,7 @@ fn with_vsock(found: DriveFiles, config: &Config) -> Result<DriveFiles, AllocErr
     }
 }
 
-// The balloon stands last.
+// The balloon stands before the entropy device.
 fn with_balloon(found: DriveFiles, config: &Config) -> Result<DriveFiles, AllocError>
     requires { IsTaken config.now }
     ensures drives { IfOk result (λ it. it.drives.items ≡ with_balloon found.drives.items config.now.balloon) }
@@ -100,17 +103,48 @@ fn with_balloon(found: DriveFiles, config: &Config) -> Result<DriveFiles, AllocE
     }
 }
 
+// What an entropy device starts with.
+fn new_entropy(entropy: &Entropy) -> NewEntropy
+    requires { is_entropy entropy.now ≡ true }
+    ensures { result ≡ new_entropy entropy.now }
+{
+    NewEntropy {
+        limits: gate_of(&entropy.rate_limiter),
+    }
+}
+
+// The entropy device stands last.
+#[tactic(auto, using(crate::proofs::NetsMade::entropy_taken))]
+fn with_entropy(found: DriveFiles, config: &Config) -> Result<DriveFiles, AllocError>
+    requires { IsTaken config.now }
+    ensures drives { IfOk result (λ it. it.drives.items ≡ with_entropy found.drives.items config.now.entropy) }
+    ensures there { IfOk result (λ it. it.are_there ≡ found.are_there) }
+{
+    match &config.entropy {
+        None => Ok(found),
+        Some(entropy) => {
+            let mut drives = found.drives;
+            drives.push(NewDevice::Entropy(new_entropy(entropy)))?;
+            Ok(DriveFiles {
+                drives,
+                are_there: found.are_there,
+            })
+        }
+    }
+}
+
 // The interfaces stand behind the drives, and before those.
 #[tactic(auto, using(crate::proofs::NetsMade::interfaces_taken, crate::proofs::NetsMade::others_with))]
 fn with_others(found: DriveFiles, config: &Config) -> Result<DriveFiles, AllocError>
     requires { IsTaken config.now }
     ensures drives { IfOk result (λ it. it.drives.items
-        ≡ with_others found.drives.items config.now.interfaces config.now.vsock config.now.balloon) }
+        ≡ with_others found.drives.items config.now.interfaces config.now.vsock config.now.balloon config.now.entropy) }
     ensures there { IfOk result (λ it. it.are_there ≡ found.are_there) }
 {
     let linked = with_interfaces(found, config.interfaces.as_slice())?;
     let socketed = with_vsock(linked, config)?;
-    with_balloon(socketed, config)
+    let inflated = with_balloon(socketed, config)?;
+    with_entropy(inflated, config)
 }
 
 /// The devices of a machine that is configured so, the drives by their files, asked in the order of devices.
@@ -125,7 +159,7 @@ pub(crate) fn device_files<F: Files>(
     ensures there { IfOk result (λ it. Tells (F.known files.old).health →
         it.are_there ≡ have_files config.now.drives (F.known files.old).saved) }
     ensures many { IfOk result (λ it. length it.drives.items ≡ device_count config.now) }
-    ensures kinds { IfOk result (λ it. kinds_at_start it.drives.items ≡ kinds_of (configuration_of config.now)) }
+    ensures kinds { IfOk result (λ it. kinds_at_start it.drives.items ≡ kinds_of (configuration_of config.now) config.now.entropy) }
     ensures fit { IfOk result (λ it. All IsGivenNew it.drives.items) }
     ensures same { Tells (F.known files.old).health → SameFiles (F.known files.old) (F.known files.new) }
     ensures cause { FileCause result (F.known files.old).health.faults (F.known files.new).health.faults }

@@ -43,7 +43,11 @@ pub fn restore<F: Files>(alloc: Global, load: &SnapshotLoad, files: &mut F) -> P
             let Ok(carried) = world_of(alloc, found.copy, found.pages) else {
                 return Plan::NoMemory;
             };
-            let config = config_of(carried.configuration, load.track_dirty_pages);
+            let config = config_of(
+                carried.configuration,
+                carried.entropy,
+                load.track_dirty_pages,
+            );
             Plan::Restores(Restored {
                 identity: found.identity,
                 next: found.identity.number + 1,

@@ -158,7 +158,7 @@ fn guest_of(
     requires taken { IsTaken config.now }
     requires source { is_some config.now.boot_source ≡ true }
     requires many { length devices.now ≡ device_count config.now }
-    requires kinds { kinds_at_start devices.now ≡ kinds_of (configuration_of config.now) }
+    requires kinds { kinds_at_start devices.now ≡ kinds_of (configuration_of config.now) config.now.entropy }
     requires fit { All IsGivenNew devices.now }
     requires fits { loads_fit config.now.machine.mem_size_mib (length image.now) (option_map length disk.now) ≡ true }
     ensures world { IfOk result (λ guest.

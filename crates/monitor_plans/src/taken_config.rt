@@ -67,7 +67,7 @@ impl TakenConfig {
 
     /// Takes the drives that a PUT of one leaves, which are as the API takes them.
     pub fn set_drives(&mut self, drives: Drives)
-        requires { AreFitting drives self.old.interfaces self.old.vsock self.old.balloon }
+        requires { AreFitting drives self.old.interfaces self.old.vsock self.old.balloon self.old.entropy }
         ensures { self.new ≡ record self.old { drives = drives; configured = true } }
     {
         self.config.set_drives(drives);
@@ -75,7 +75,7 @@ impl TakenConfig {
 
     /// Takes the interfaces that a PUT of one leaves, which are as the API takes them.
     pub fn set_interfaces(&mut self, interfaces: Interfaces)
-        requires { AreLinked self.old.drives interfaces self.old.vsock self.old.balloon self.old.mmds }
+        requires { AreLinked self.old.drives interfaces self.old.vsock self.old.balloon self.old.entropy self.old.mmds }
         ensures { self.new ≡ record self.old { interfaces = interfaces; configured = true } }
     {
         self.config.set_interfaces(interfaces);

@@ -2,16 +2,17 @@
 use Rattle.std.proofs.Common.{◌≡◌, ℕ, true, false, refl, sym, ap, subst, Option, Some, None}
 use Rattle.vm_types.specs.declared.op.Op.{Op}
 use Rattle.vm_types.specs.declared.op.OutOp.{OutOp}
-use Rattle.vm_types.specs.declared.op.OutOp.TheVariants.{DiskFlush, DiskRead, DiskWrite, HostClose, HostDial, HostNext, HostSend, LinkEnd, LinkPart, LinkSend, LinkTake}
+use Rattle.vm_types.specs.declared.op.OutOp.TheVariants.{DiskFlush, DiskRead, DiskWrite, DrawWord, HostClose, HostDial, HostNext, HostSend, LinkEnd, LinkPart, LinkSend, LinkTake}
 use Rattle.vm_types.specs.declared.reply.Reply.{Reply}
 use Rattle.vm_host.specs.Framing.{LinkKnown}
+use Rattle.vm_host.specs.Giving.{GuestWordsKnown}
 use Rattle.vm_host.specs.Hosting.{VsockKnown}
 use Rattle.vm_host.specs.Storing.{DiskKnown}
 use Rattle.device_trace.specs.Acts.{is_disk_call}
-use Rattle.monitor_machine.specs.Kinds.{DevicesKnown, disks, is_link_call, is_vsock_call, links, vsocks}
+use Rattle.monitor_machine.specs.Kinds.{DevicesKnown, disks, is_link_call, is_vsock_call, is_word_call, links, vsocks, words}
 use Rattle.monitor_running.specs.Devices.{IsGiven, IsGivenBy}
-use Rattle.monitor_running.specs.Objects.{TurnKnown, with_disk, with_link, with_vsock}
-use Rattle.monitor_running.proofs.KindLaws.{disks_law, links_law, vsocks_law}
+use Rattle.monitor_running.specs.Objects.{TurnKnown, with_disk, with_guest_words, with_link, with_vsock}
+use Rattle.monitor_running.proofs.KindLaws.{disks_law, links_law, vsocks_law, words_law}
 use Rattle.monitor_running.proofs.OneKind.{asks_not, asks_own}
 
 -- ---- no call is of two kinds
@@ -56,6 +57,31 @@ vsock_is_no_link (LinkSend piece) is = cc
 vsock_is_no_link LinkEnd is = cc
 vsock_is_no_link act is = refl
 
+-- a call for a word is of no other kind
+disk_is_no_word : (act : OutOp) → is_disk_call act ≡ true → is_word_call act ≡ false
+disk_is_no_word DrawWord is = cc
+disk_is_no_word act is = refl
+
+link_is_no_word : (act : OutOp) → is_link_call act ≡ true → is_word_call act ≡ false
+link_is_no_word DrawWord is = cc
+link_is_no_word act is = refl
+
+vsock_is_no_word : (act : OutOp) → is_vsock_call act ≡ true → is_word_call act ≡ false
+vsock_is_no_word DrawWord is = cc
+vsock_is_no_word act is = refl
+
+word_is_no_disk : (act : OutOp) → is_word_call act ≡ true → is_disk_call act ≡ false
+word_is_no_disk DrawWord is = refl
+word_is_no_disk act is = cc
+
+word_is_no_link : (act : OutOp) → is_word_call act ≡ true → is_link_call act ≡ false
+word_is_no_link DrawWord is = refl
+word_is_no_link act is = cc
+
+word_is_no_vsock : (act : OutOp) → is_word_call act ≡ true → is_vsock_call act ≡ false
+word_is_no_vsock DrawWord is = refl
+word_is_no_vsock act is = cc
+
 -- ---- what one kind gives is given
 
 of_disk : (k : ℕ) (act : OutOp) (given : Option Reply) (old : DevicesKnown) (disk : DiskKnown)
@@ -68,6 +94,7 @@ of_disk k act (Some r) old disk it = (
     disk = asks_own disks disks_law act k r old.disk disk it.0 it.3;
     link = asks_not links links_law act k r old.link old.link (disk_is_no_link act it.0) refl;
     vsock = asks_not vsocks vsocks_law act k r old.vsock old.vsock (disk_is_no_vsock act it.0) refl;
+    words = asks_not words words_law act k r old.words old.words (disk_is_no_word act it.0) refl;
   },
 )
 
@@ -81,6 +108,7 @@ of_link k act (Some r) old link it = (
     disk = asks_not disks disks_law act k r old.disk old.disk (link_is_no_disk act it.0) refl;
     link = asks_own links links_law act k r old.link link it.0 it.3;
     vsock = asks_not vsocks vsocks_law act k r old.vsock old.vsock (link_is_no_vsock act it.0) refl;
+    words = asks_not words words_law act k r old.words old.words (link_is_no_word act it.0) refl;
   },
 )
 
@@ -94,6 +122,21 @@ of_vsock k act (Some r) old vsock it = (
     disk = asks_not disks disks_law act k r old.disk old.disk (vsock_is_no_disk act it.0) refl;
     link = asks_not links links_law act k r old.link old.link (vsock_is_no_link act it.0) refl;
     vsock = asks_own vsocks vsocks_law act k r old.vsock vsock it.0 it.3;
+    words = asks_not words words_law act k r old.words old.words (vsock_is_no_word act it.0) refl;
+  },
+)
+
+of_words : (k : ℕ) (act : OutOp) (given : Option Reply) (old : DevicesKnown) (left : GuestWordsKnown)
+    → IsGivenBy words k (Op.Out act) old.words given left → IsGiven k (Op.Out act) old given (record old { words = left })
+of_words k act None old left it = ap (λ (w : GuestWordsKnown). record old { words = w }) it
+of_words k act (Some r) old left it = (
+  it.1,
+  it.2,
+  record {
+    disk = asks_not disks disks_law act k r old.disk old.disk (word_is_no_disk act it.0) refl;
+    link = asks_not links links_law act k r old.link old.link (word_is_no_link act it.0) refl;
+    vsock = asks_not vsocks vsocks_law act k r old.vsock old.vsock (word_is_no_vsock act it.0) refl;
+    words = asks_own words words_law act k r old.words left it.0 it.3;
   },
 )
 
@@ -122,3 +165,11 @@ vsock_given k act given was now lent back from set it =
     subst (λ (x : TurnKnown). IsGiven k (Op.Out act) was.host.devices given x.host.devices) (sym set)
     (of_vsock k act given was.host.devices back
     (subst (λ (v : VsockKnown). IsGivenBy vsocks k (Op.Out act) v given back) from it))
+
+pub words_given : (k : ℕ) (act : OutOp) (given : Option Reply) (was now : TurnKnown) (lent back : GuestWordsKnown)
+    → lent ≡ was.host.devices.words → now ≡ with_guest_words was back → IsGivenBy words k (Op.Out act) lent given back
+    → IsGiven k (Op.Out act) was.host.devices given now.host.devices
+words_given k act given was now lent back from set it =
+    subst (λ (x : TurnKnown). IsGiven k (Op.Out act) was.host.devices given x.host.devices) (sym set)
+    (of_words k act given was.host.devices back
+    (subst (λ (w : GuestWordsKnown). IsGivenBy words k (Op.Out act) w given back) from it))

@@ -19,7 +19,7 @@ use Rattle.hart_trace.proofs.Traces as hart_traces
 use Rattle.timer_trace.specs.States.{wants_by}
 use Rattle.timer_trace.proofs.Traces as timer_traces
 use Rattle.guest_devices.specs.Devices.{FlatDevice}
-use Rattle.guest_devices.specs.Kinds.{Balloon, Block, Kind, Net, Vsock, calls_of}
+use Rattle.guest_devices.specs.Kinds.{Balloon, Block, Entropy, Kind, Net, Vsock, calls_of}
 use Rattle.guest_devices.proofs.Soundness.{want_host}
 use Rattle.flat_guest.specs.Given.{Event}
 use Rattle.flat_guest.specs.Guest.{Guest, Wants, WantsFrom, WantsOf, layout_of, whole_pages}
@@ -78,6 +78,7 @@ no_clock : (kind : Kind) → calls_of kind Clock ≡ true → ⊥
 no_clock Block calls = cc
 no_clock Net calls = cc
 no_clock Vsock calls = cc
+no_clock Entropy calls = cc
 no_clock Balloon calls = cc
 
 device_asks : (g : Guest) (k : ℕ) (o : Option FlatDevice) (act : OutOp) → IsSound g → slice_get g.devices k ≡ o

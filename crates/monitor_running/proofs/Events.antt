@@ -9,11 +9,11 @@ use Rattle.vm_types.specs.declared.op.Op.{Op}
 use Rattle.vm_types.specs.declared.reply.Reply.{Reply}
 use Rattle.vm_host.specs.Telling.{ClockKnown}
 use Rattle.slice_runner.specs.Slices.{ClockWasAsked, IsThere}
-use Rattle.monitor_machine.specs.Kinds.{DevicesKnown, disks, links, vsocks}
+use Rattle.monitor_machine.specs.Kinds.{DevicesKnown, disks, links, vsocks, words}
 use Rattle.monitor_running.specs.Asked.{DevicesUncalled}
 use Rattle.monitor_running.specs.Devices.{AsksDevices, DevicesRest, IsDevices, WereAsked}
 use Rattle.monitor_running.specs.Waiting.{hart_turn, hart_turns, is_left_out, makers, turns}
-use Rattle.monitor_running.proofs.KindLaws.{disks_law, links_law, vsocks_law}
+use Rattle.monitor_running.proofs.KindLaws.{disks_law, links_law, vsocks_law, words_law}
 use Rattle.monitor_running.proofs.OneKind.{IsOther}
 use Rattle.monitor_running.proofs.OneKind as one
 
@@ -24,6 +24,7 @@ rests_same known = record {
   disk = one.rests_same disks disks_law known.disk;
   link = one.rests_same links links_law known.link;
   vsock = one.rests_same vsocks vsocks_law known.vsock;
+  words = one.rests_same words words_law known.words;
 }
 
 pub rests_of : (old new : DevicesKnown) → new ≡ old → DevicesRest old new
@@ -34,6 +35,7 @@ rests_more a b c first behind = record {
   disk = one.rests_more disks disks_law a.disk b.disk c.disk first.disk behind.disk;
   link = one.rests_more links links_law a.link b.link c.link first.link behind.link;
   vsock = one.rests_more vsocks vsocks_law a.vsock b.vsock c.vsock first.vsock behind.vsock;
+  words = one.rests_more words words_law a.words b.words c.words first.words behind.words;
 }
 
 -- none is called
@@ -42,6 +44,7 @@ rests_uncalled a b rests = record {
   disk = one.rests_uncalled disks disks_law a.disk b.disk rests.disk;
   link = one.rests_uncalled links links_law a.link b.link rests.link;
   vsock = one.rests_uncalled vsocks vsocks_law a.vsock b.vsock rests.vsock;
+  words = one.rests_uncalled words words_law a.words b.words rests.words;
 }
 
 pub asks_later : (op : Op) (actor : ActorId) (reply : Reply) (a b c : DevicesKnown) → DevicesRest a b → AsksDevices op actor reply b c
@@ -50,6 +53,7 @@ asks_later op actor reply a b c rests then = record {
   disk = one.asks_later disks disks_law op actor reply a.disk b.disk c.disk rests.disk then.disk;
   link = one.asks_later links links_law op actor reply a.link b.link c.link rests.link then.link;
   vsock = one.asks_later vsocks vsocks_law op actor reply a.vsock b.vsock c.vsock rests.vsock then.vsock;
+  words = one.asks_later words words_law op actor reply a.words b.words c.words rests.words then.words;
 }
 
 asks_none : (op : Op) (actor : ActorId) (reply : Reply) (known : DevicesKnown) → IsOther actor → AsksDevices op actor reply known known
@@ -57,6 +61,7 @@ asks_none op actor reply known other = record {
   disk = one.asks_none disks disks_law op actor reply known.disk other;
   link = one.asks_none links links_law op actor reply known.link other;
   vsock = one.asks_none vsocks vsocks_law op actor reply known.vsock other;
+  words = one.asks_none words words_law op actor reply known.words other;
 }
 
 -- what is no call of a host object asks none
@@ -68,7 +73,7 @@ pub asks_nothing : (op : Op) (actor : ActorId) (reply : Reply) (old new : Device
     → AsksDevices op actor reply old new
 asks_nothing (Op.Out act) actor reply old new inside same = cc
 asks_nothing op actor reply old new inside same =
-    let all = rests_of old new same in record { disk = all.disk; link = all.link; vsock = all.vsock }
+    let all = rests_of old new same in record { disk = all.disk; link = all.link; vsock = all.vsock; words = all.words }
 
 -- ---- events one after another
 

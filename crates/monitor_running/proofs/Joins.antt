@@ -13,7 +13,7 @@ use Rattle.slice_runner.specs.Runs.{HasAnswered}
 use Rattle.flat_machine.specs.Machine.{Machine, running}
 use Rattle.flat_machine.specs.Run.{Act}
 use Rattle.flat_trace.specs.Events.{answer_by, answers_in}
-use Rattle.monitor_machine.specs.Kinds.{DevicesKnown, disks, links, vsocks}
+use Rattle.monitor_machine.specs.Kinds.{DevicesKnown, disks, links, vsocks, words}
 use Rattle.monitor_running.specs.Asked.{AnsweredSince, DevicesAnswered, DevicesUncalled, Healths, HostKnown, ItemAsks, healths}
 use Rattle.monitor_running.specs.Devices.{DevicesRest}
 use Rattle.monitor_running.specs.Reached.{AreOwn, LeadsAhead, NoLineage, Reached, Seen, Start, gives_lineage, told_at, told_by}
@@ -30,6 +30,7 @@ uncalled_none known = record {
   disk = attaching.uncalled_none disks attaching.disks_beside known.disk;
   link = attaching.uncalled_none links attaching.links_beside known.link;
   vsock = attaching.uncalled_none vsocks attaching.vsocks_beside known.vsock;
+  words = attaching.uncalled_none words attaching.words_beside known.words;
 }
 
 pub uncalled_more : (a b c : DevicesKnown) → DevicesUncalled a b → DevicesUncalled b c → DevicesUncalled a c
@@ -37,6 +38,7 @@ uncalled_more a b c first behind = record {
   disk = attaching.uncalled_more disks attaching.disks_beside a.disk b.disk c.disk first.disk behind.disk;
   link = attaching.uncalled_more links attaching.links_beside a.link b.link c.link first.link behind.link;
   vsock = attaching.uncalled_more vsocks attaching.vsocks_beside a.vsock b.vsock c.vsock first.vsock behind.vsock;
+  words = attaching.uncalled_more words attaching.words_beside a.words b.words c.words first.words behind.words;
 }
 
 module _ (start : Healths) where

@@ -1,7 +1,7 @@
 -- The kinds of objects that devices ask: that nothing passed, and then a call.
 use Rattle.std.proofs.Common.{◌≡◌, ℕ, refl, sym, ap, ◌∙◌, subst, Option, Some, None, List, [], ◌∷◌, ◌++◌}
 use Rattle.vm_types.specs.declared.op.OutOp.{OutOp}
-use Rattle.vm_types.specs.declared.op.OutOp.TheVariants.{DiskFlush, DiskRead, DiskWrite, HostClose, HostDial, HostNext, HostSend, LinkEnd, LinkPart, LinkSend, LinkTake}
+use Rattle.vm_types.specs.declared.op.OutOp.TheVariants.{DiskFlush, DiskRead, DiskWrite, DrawWord, HostClose, HostDial, HostNext, HostSend, LinkEnd, LinkPart, LinkSend, LinkTake}
 use Rattle.vm_types.specs.declared.reply.Reply.{Reply}
 use Rattle.vm_host.specs.declared.attached.Attached.{Attached}
 use Rattle.vm_host.specs.declared.disk.DiskCall.{DiskCall}
@@ -12,10 +12,11 @@ use Rattle.vm_host.specs.declared.vsock_host.HostEvent.{HostEvent}
 use Rattle.vm_host.specs.declared.vsock_host.HostEvent.TheVariants as event
 use Rattle.vm_host.specs.Devices.{ChangesAt}
 use Rattle.vm_host.specs.Framing.{Drops, IsPiece, LinkKnown, SendsFrame, SendsPart, Takes, Wire}
+use Rattle.vm_host.specs.Giving.{GivesWord, GuestWordsKnown}
 use Rattle.vm_host.specs.Hosting.{Dials, Does, Happens, IsAnswered, VsockKnown}
 use Rattle.vm_host.specs.Hosting as hosting
 use Rattle.vm_host.specs.Storing.{DiskKnown, IsMade, IsPart, MayBeMade, SameDisks, WritesPart}
-use Rattle.monitor_machine.specs.Kinds.{Changes, DiskHolds, LinkHolds, SameLinks, VsockHolds, disks, links, vsocks}
+use Rattle.monitor_machine.specs.Kinds.{Changes, DiskHolds, LinkHolds, SameLinks, SameWords, VsockHolds, WordHolds, disks, links, vsocks, words}
 use Rattle.monitor_machine.specs.Objects.{ObjectKind}
 
 -- of a kind: nothing passed where nothing was done, and where nothing passed twice; then all beside the names is as it was, and so are
@@ -205,4 +206,25 @@ vsocks_law = record {
   named = λ a b same. one_name a b same.sockets;
   called = λ k act reply a b holds. one_name a b (vsock_called k act reply a b holds);
   later = vsock_later;
+}
+
+-- ---- words
+
+words_more : (a b c : GuestWordsKnown) → SameWords a b → SameWords b c → SameWords a c
+words_more a b c first behind = record { left = behind.left ∙ first.left }
+
+word_later : (k : ℕ) (act : OutOp) (reply : Reply) (a b c : GuestWordsKnown) → SameWords a b → WordHolds k act reply b c → WordHolds k act reply a c
+word_later k DrawWord (Reply.Drawn word) a b c same holds =
+    record { left = subst (λ (left : ℕ → ℕ → ℕ). GivesWord k word left c.left) same.left holds.left }
+word_later k DrawWord reply a b c same holds = words_more a b c same holds
+word_later k act reply a b c same holds = words_more a b c same holds
+
+pub words_law : KindLaw words
+words_law = record {
+  none = λ a. record { left = refl };
+  more = words_more;
+  beside = λ a b same. same;
+  named = λ a b same. refl;
+  called = λ k act reply a b holds. refl;
+  later = word_later;
 }

@@ -23,11 +23,11 @@ use Rattle.slice_runner.specs.Slices.{Leads, event_of, given_of}
 use Rattle.monitor_running.specs.Happened.{HavePorts}
 use Rattle.monitor_running.proofs.Asked.{IsAsking, IsDeviceCall, is_asking}
 use Rattle.device_trace.specs.Acts.{is_disk_call}
-use Rattle.guest_devices.specs.Kinds.{Balloon, Block, Kind, Net, Vsock, calls_of}
+use Rattle.guest_devices.specs.Kinds.{Balloon, Block, Entropy, Kind, Net, Vsock, calls_of}
 use Rattle.flat_guest.specs.Sound.{IsSound}
 use Rattle.flat_guest.proofs.Soundness.{sound_next}
 use Rattle.vm_types.specs.declared.op.OutOp.{OutOp}
-use Rattle.vm_types.specs.declared.op.OutOp.TheVariants.{DiskFlush, DiskRead, DiskWrite, HostClose, HostDial, HostNext, HostSend, LinkEnd, LinkPart, LinkSend, LinkTake}
+use Rattle.vm_types.specs.declared.op.OutOp.TheVariants.{DiskFlush, DiskRead, DiskWrite, DrawWord, HostClose, HostDial, HostNext, HostSend, LinkEnd, LinkPart, LinkSend, LinkTake}
 use Rattle.vm_types.specs.Fits.{out_fits}
 use Rattle.serve_host.specs.Events.{event_items, frame_reply, host_reply, item_by, item_of}
 use Rattle.flat_trace.specs.Events.{drain_items, event_acts, quiet_act}
@@ -132,12 +132,20 @@ socket_again (HostClose connection) Reply.Failed call fits short = refl
 socket_again (HostClose connection) reply call fits short = cc
 socket_again act reply call fits short = cc
 
+word_again : (act : OutOp) (reply : Reply) → calls_of Entropy act ≡ true → out_fits act reply ≡ true
+    → reply_given (host_reply reply) ≡ Host reply
+word_again DrawWord (Reply.Drawn word) call fits = refl
+word_again DrawWord Reply.Failed call fits = refl
+word_again DrawWord reply call fits = cc
+word_again act reply call fits = cc
+
 call_again : (kind : Kind) (act : OutOp) (reply : Reply) → calls_of kind act ≡ true → out_fits act reply ≡ true
     → IsShort (Op.Out act) reply → reply_given (host_reply reply) ≡ Host reply
 call_again Block act reply call fits short = disk_again act reply call fits
 call_again Net act reply call fits short = link_again act reply call fits
 call_again Vsock act reply call fits short = socket_again act reply call fits short
 call_again Balloon act reply call fits short = cc
+call_again Entropy act reply call fits short = word_again act reply call fits
 
 given_again : (e : Entry) (act : OutOp) → IsAsking e act ⊎ IsDeviceCall e act → e.op ≡ Op.Out act → IsHeard e.actor e.op e.reply
     → reply_given (host_reply e.reply) ≡ Host e.reply
@@ -191,7 +199,7 @@ module _ (m : Machine) (g mid : Guest) (e : Entry) (sound : IsSound g) (runs : r
         given_again e act (is_asking g (event_of e) e mid act sound step is) is heard in
         subst (λ (o : Option Guest). ItemAsks start (item.Reply e.actor (host_reply e.reply)) m.config o old now) (sym runs)
         (own, Op.Out act, e.reply, subst (λ (o : Op). Wants g e.actor o) is step.want, reads, asks)
-    asks_by op is asks = rests_uncalled old now (record { disk = asks.disk; link = asks.link; vsock = asks.vsock })
+    asks_by op is asks = rests_uncalled old now (record { disk = asks.disk; link = asks.link; vsock = asks.vsock; words = asks.words })
 
     pub asks : AsksDevices e.op e.actor e.reply old now → ItemAsks start (item_of e) m.config (running m) old now
     asks asked = asks_by e.op refl asked

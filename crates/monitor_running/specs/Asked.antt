@@ -1,4 +1,4 @@
--- What a run asked of the objects that actors ask: the clock, and the disks, links and sockets of devices.
+-- What a run asked of the objects that actors ask: the clock, and the disks, links, sockets and words of devices.
 use Rattle.std.specs.Prelude.{ℕ, ◌≡◌, List, [], ◌∷◌, Option, Some}
 use Rattle.vm_types.specs.declared.ids.ActorId.{ActorId}
 use Rattle.vm_types.specs.declared.op.Op.{Op}
@@ -6,6 +6,7 @@ use Rattle.vm_types.specs.declared.reply.Reply.{Reply}
 use Rattle.vm_outside.specs.Known.{Health}
 use Rattle.vm_host.specs.declared.host.Host.{Host}
 use Rattle.vm_host.specs.Framing.{LinkKnown}
+use Rattle.vm_host.specs.Giving.{GuestWordsKnown}
 use Rattle.vm_host.specs.Hosting.{VsockKnown}
 use Rattle.vm_host.specs.Storing.{DiskKnown}
 use Rattle.vm_host.specs.Telling.{ClockKnown}
@@ -20,7 +21,7 @@ use Rattle.flat_machine.specs.Run.{Act}
 use Rattle.flat_trace.specs.Events.{answers_in}
 use Rattle.flat_trace.specs.Showing.{Out, Run, items_of}
 use Rattle.slice_runner.specs.Runs.{HasAnswered}
-use Rattle.monitor_machine.specs.Kinds.{DevicesKnown, disks, links, vsocks}
+use Rattle.monitor_machine.specs.Kinds.{DevicesKnown, disks, links, vsocks, words}
 use Rattle.monitor_machine.specs.Objects.{AreNamed, Named, Uncalled}
 use Rattle.monitor_running.specs.Devices.{AsksDevices, DevicesRest}
 
@@ -29,14 +30,14 @@ pub record HostKnown : Type 0 where
   pub clock : ClockKnown
   pub devices : DevicesKnown
 
-abbrev pub host_known : {D L V C : Type 0} → (C → ClockKnown) → (D → DiskKnown) → (L → LinkKnown) → (V → VsockKnown) → Host D L V C
-    → HostKnown
-host_known clock disk link vsock host = record {
+abbrev pub host_known : {D L V G C : Type 0} → (C → ClockKnown) → (D → DiskKnown) → (L → LinkKnown) → (V → VsockKnown) → (G → GuestWordsKnown)
+    → Host D L V G C → HostKnown
+host_known clock disk link vsock guest_words host = record {
   clock = clock host.clock;
-  devices = record { disk = disk host.disk; link = link host.link; vsock = vsock host.vsock };
+  devices = record { disk = disk host.disk; link = link host.link; vsock = vsock host.vsock; words = guest_words host.guest_words };
 }
 
--- the health of each object that devices ask
+-- the health of each object that devices ask and that is attached by a name
 pub record Healths : Type 0 where
   pub disk : Health
   pub link : Health
@@ -45,7 +46,7 @@ pub record Healths : Type 0 where
 abbrev pub healths : DevicesKnown → Healths
 healths known = record { disk = known.disk.health; link = known.link.health; vsock = known.vsock.health }
 
--- each object of the device with this number is the one that is configured for it
+-- each object of the device with this number is the one that is configured for it; words are attached by no name
 pub record HasOwn (start : Healths) (config : Config) (k : ℕ) (now : DevicesKnown) : Type 0 where
   pub disk : Named disks start.disk config k now.disk
   pub link : Named links start.link config k now.link
@@ -67,6 +68,7 @@ pub record DevicesUncalled (old new : DevicesKnown) : Type 0 where
   pub disk : Uncalled disks old.disk new.disk
   pub link : Uncalled links old.link new.link
   pub vsock : Uncalled vsocks old.vsock new.vsock
+  pub words : Uncalled words old.words new.words
 
 -- A reply item tells the answer to what the actor wants; to a call of a device, its own object gave it. In every other item none is
 -- called.
@@ -84,7 +86,7 @@ DevicesAnswered start (act ∷ acts) m outs n run old new =
     (mid : DevicesKnown) × ItemAsks start act.item m.config (running m) old mid × DevicesAnswered start acts run.1 run.2 n run.5 mid new
 
 -- In a run since a start, for which the objects had this health, the timer was given the clock's answers, and each device those of its
--- disk, its link or its socket.
+-- disk, its link, its socket or its words.
 pub record AnsweredSince (start : Healths) (acts : List Act) (m : Machine) (outs : List Out) (n : Machine) (run : Run acts m outs n)
     (old new : HostKnown) : Type 0 where
   pub clock : HasAnswered old.clock (answers_in (items_of acts)) new.clock

@@ -4,13 +4,13 @@ use Rattle.vm_types.specs.Fits.{out_fits}
 use Rattle.vm_types.specs.declared.entry.Entry.{Entry}
 use Rattle.vm_types.specs.declared.ids.ActorId.{ActorId}
 use Rattle.vm_types.specs.declared.op.Op.{Op}
-use Rattle.vm_types.specs.declared.op.OutOp.TheVariants.{DiskFlush, DiskRead, DiskWrite, HostClose, HostDial, HostNext, HostSend, LinkEnd, LinkPart, LinkSend, LinkTake}
+use Rattle.vm_types.specs.declared.op.OutOp.TheVariants.{DiskFlush, DiskRead, DiskWrite, DrawWord, HostClose, HostDial, HostNext, HostSend, LinkEnd, LinkPart, LinkSend, LinkTake}
 use Rattle.vm_types.specs.declared.reply.Reply.{Reply}
 use Rattle.port_table.specs.Window.{most_ports}
 use Rattle.flat_guest.specs.Guest.{Guest}
 use Rattle.vm_world.specs.Worlds.{IsWorld, WorldValue}
 use Rattle.slice_runner.specs.Slices.{IsSerial}
-use Rattle.monitor_machine.specs.Kinds.{DevicesKnown, disks, links, vsocks}
+use Rattle.monitor_machine.specs.Kinds.{DevicesKnown, disks, links, vsocks, words}
 use Rattle.monitor_machine.specs.Objects.{Asks, ObjectKind, Replies, Rests}
 
 -- ---- all kinds at once
@@ -20,12 +20,14 @@ pub record DevicesRest (old new : DevicesKnown) : Type 0 where
   pub disk : Rests disks old.disk new.disk
   pub link : Rests links old.link new.link
   pub vsock : Rests vsocks old.vsock new.vsock
+  pub words : Rests words old.words new.words
 
 -- what an event asks: a device's call, of its own object of that kind; no other event asks any
 pub record AsksDevices (op : Op) (actor : ActorId) (reply : Reply) (old new : DevicesKnown) : Type 0 where
   pub disk : Asks disks op actor reply old.disk new.disk
   pub link : Asks links op actor reply old.link new.link
   pub vsock : Asks vsocks op actor reply old.vsock new.vsock
+  pub words : Asks words op actor reply old.words new.words
 
 -- the objects were asked in these events, one after another, from what was known of them to what is known now
 abbrev pub WereAsked : DevicesKnown → List Entry → DevicesKnown → Type 0
@@ -66,6 +68,7 @@ CanBeAsked (Op.Out HostNext) = Unit {0}
 CanBeAsked (Op.Out (HostDial port)) = Unit {0}
 CanBeAsked (Op.Out (HostSend piece connection)) = Unit {0}
 CanBeAsked (Op.Out (HostClose connection)) = Unit {0}
+CanBeAsked (Op.Out DrawWord) = Unit {0}
 CanBeAsked op = ⊥
 
 -- ---- the events of devices

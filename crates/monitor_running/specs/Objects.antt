@@ -1,5 +1,6 @@
 -- What is known of what turns are given beside the sink.
 use Rattle.vm_host.specs.Framing.{LinkKnown}
+use Rattle.vm_host.specs.Giving.{GuestWordsKnown}
 use Rattle.vm_host.specs.Hosting.{VsockKnown}
 use Rattle.vm_host.specs.Storing.{DiskKnown}
 use Rattle.vm_host.specs.Telling.{ClockKnown}
@@ -28,7 +29,7 @@ with_devices given devices = record given { host = record given.host { devices =
 abbrev pub with_trace : TurnKnown → TraceKnown → TurnKnown
 with_trace given trace = record given { trace = trace }
 
--- with other disks, other links, or another end of the vsock device
+-- with other disks, other links, another end of the vsock device, or other words
 abbrev pub with_disk : TurnKnown → DiskKnown → TurnKnown
 with_disk given disk = with_devices given (record given.host.devices { disk = disk })
 
@@ -37,3 +38,6 @@ with_link given link = with_devices given (record given.host.devices { link = li
 
 abbrev pub with_vsock : TurnKnown → VsockKnown → TurnKnown
 with_vsock given vsock = with_devices given (record given.host.devices { vsock = vsock })
+
+abbrev pub with_guest_words : TurnKnown → GuestWordsKnown → TurnKnown
+with_guest_words given words = with_devices given (record given.host.devices { words = words })

@@ -3,12 +3,12 @@ ghost use Rattle.std.specs.Prelude.{◌≡◌, ◌<◌, true, IfSome, IsSome, So
 ghost use Rattle.vm_types.specs.declared.op.Op.TheVariants.{Out};
 ghost use Rattle.vm_types.specs.declared.op.OutOp.TheVariants as out;
 ghost use Rattle.vm_outside.specs.Known.{Lasts};
-ghost use Rattle.monitor_machine.specs.Kinds.{disks, links, vsocks};
+ghost use Rattle.monitor_machine.specs.Kinds.{disks, links, vsocks, words};
 ghost use Rattle.monitor_running.specs.Devices.{CanBeAsked, IsGiven, IsGivenBy};
-ghost use Rattle.monitor_running.specs.Objects.{with_devices, with_disk, with_link, with_vsock};
+ghost use Rattle.monitor_running.specs.Objects.{with_devices, with_disk, with_guest_words, with_link, with_vsock};
 
 use crate::objects::TurnObjects;
-use vm_host::{Disk, HostEvent, Link, VsockHost};
+use vm_host::{Disk, GuestWords, HostEvent, Link, VsockHost};
 use vm_outside::Failed;
 use vm_types::{Op, OutOp, Piece, Reply};
 
@@ -218,6 +218,30 @@ fn ask_vsock<V: VsockHost>(vsock: &mut V, device: u8, act: &OutOp) -> Option<Rep
     }
 }
 
+// ---- entropy devices
+
+fn draw<G: GuestWords>(guest_words: &mut G, device: u8) -> Reply
+    ensures given { IsGivenBy words device (Out out.DrawWord) (G.known guest_words.old) (Some result) (G.known guest_words.new) }
+    ensures lasts { Lasts (G.known guest_words.old).health (G.known guest_words.new).health }
+{
+    match guest_words.word(device) {
+        Ok(word) => Reply::Drawn { word },
+        Err(Failed) => Reply::Failed,
+    }
+}
+
+// `None` where no word is asked for.
+fn ask_words<G: GuestWords>(guest_words: &mut G, device: u8, act: &OutOp) -> Option<Reply>
+    ensures given { IsGivenBy words device (Out act.now) (G.known guest_words.old) result (G.known guest_words.new) }
+    ensures asked { words.is_call act.now ≡ true → IsSome result }
+    ensures lasts { Lasts (G.known guest_words.old).health (G.known guest_words.new).health }
+{
+    match act {
+        OutOp::DrawWord => Some(draw(guest_words, device)),
+        _ => None,
+    }
+}
+
 // ---- all of them
 
 // The same of the disks that turns are given.
@@ -238,13 +262,22 @@ fn ask_their_link<W: TurnObjects>(with: &mut W, device: u8, act: &OutOp) -> Opti
     ask_link(with.link(), device, act)
 }
 
-// And of their end of the vsock device.
+// Of their end of the vsock device.
 fn ask_their_vsock<W: TurnObjects>(with: &mut W, device: u8, act: &OutOp) -> Option<Reply>
     ensures given { IsGiven device (Out act.now) (W.known with.old).host.devices result (W.known with.new).host.devices }
     ensures asked { vsocks.is_call act.now ≡ true → IsSome result }
     ensures beside { W.known with.new ≡ with_vsock (W.known with.old) (W.known with.new).host.devices.vsock }
 {
     ask_vsock(with.vsock(), device, act)
+}
+
+// And of their words.
+fn ask_their_words<W: TurnObjects>(with: &mut W, device: u8, act: &OutOp) -> Option<Reply>
+    ensures given { IsGiven device (Out act.now) (W.known with.old).host.devices result (W.known with.new).host.devices }
+    ensures asked { words.is_call act.now ≡ true → IsSome result }
+    ensures beside { W.known with.new ≡ with_guest_words (W.known with.old) (W.known with.new).host.devices.words }
+{
+    ask_words(with.guest_words(), device, act)
 }
 
 /// What its host object answers a device that asks this: the object of the kind whose call it is. `None` where it asks none, or as no
@@ -269,5 +302,6 @@ pub fn ask_host<W: TurnObjects>(with: &mut W, device: u8, op: &Op) -> Option<Rep
         | OutOp::HostDial { .. }
         | OutOp::HostSend { .. }
         | OutOp::HostClose { .. } => ask_their_vsock(with, device, act),
+        OutOp::DrawWord => ask_their_words(with, device, act),
     }
 }

@@ -116,7 +116,7 @@ fn settle_disks<W: TurnObjects>(with: &mut W)
 }
 
 /// Events of each device, in order of their numbers: of each until it has waited, which is made too, or `most` are made.
-/// What a device asks of its disk, its link or its socket is answered by that, `Failed` where the call fails. At the end the disks
+/// What a device asks of its disk, its link, its socket or its words is answered by that, `Failed` where the call fails. At the end the disks
 /// settle. Room for all events is made first, and for pages that they make; where there is no device none is needed. Nothing is said of
 /// how far a device gets: one that lacks a page goes on in the next turn.
 ///

@@ -1,13 +1,13 @@
 // What turns are given, as one object.
 ghost use Rattle.std.specs.Prelude.{◌≡◌, refl};
 ghost use Rattle.std.specs.Borrow.{Lends, sem};
-ghost use Rattle.monitor_running.specs.Objects.{with_clock, with_disk, with_link, with_trace, with_vsock};
+ghost use Rattle.monitor_running.specs.Objects.{with_clock, with_disk, with_guest_words, with_link, with_trace, with_vsock};
 
 use serve_host::Trace;
-use vm_host::{Clock, Disk, Host, Link, VsockHost};
+use vm_host::{Clock, Disk, GuestWords, Host, Link, VsockHost};
 
-/// What turns of a machine are given beside the sink: the clock, the disks, the links and the host's end of the vsock device, which its
-/// actors ask, and the trace. Each is lent.
+/// What turns of a machine are given beside the sink: the clock, the disks, the links, the host's end of the vsock device and the words
+/// for entropy devices, which its actors ask, and the trace. Each is lent.
 pub trait TurnObjects: Drop {
     ghost use Rattle.monitor_running.specs.Objects.{TurnKnown};
 
@@ -18,6 +18,8 @@ pub trait TurnObjects: Drop {
     type L: Link + Send;
 
     type V: VsockHost + Send;
+
+    type G: GuestWords + Send;
 
     type T: Trace + Send;
 
@@ -31,6 +33,8 @@ pub trait TurnObjects: Drop {
     ghost link_as: { Self → Self.L → Self };
 
     ghost vsock_as: { Self → Self.V → Self };
+
+    ghost guest_words_as: { Self → Self.G → Self };
 
     ghost trace_as: { Self → Self.T → Self };
 
@@ -54,6 +58,11 @@ pub trait TurnObjects: Drop {
         ensures* lends { sem 𝓛 (Lends Self.row Self.V.row self.entry result (vsock_as self.old)) }
         ensures value { Self.V.known result.now ≡ (known self.old).host.devices.vsock };
 
+    /// The words of all entropy devices.
+    fn guest_words(&mut self) -> &mut Self::G
+        ensures* lends { sem 𝓛 (Lends Self.row Self.G.row self.entry result (guest_words_as self.old)) }
+        ensures value { Self.G.known result.now ≡ (known self.old).host.devices.words };
+
     /// The trace.
     fn trace(&mut self) -> &mut Self::T
         ensures* lends { sem 𝓛 (Lends Self.row Self.T.row self.entry result (trace_as self.old)) }
@@ -67,13 +76,16 @@ pub trait TurnObjects: Drop {
 
     ghost vsock_set: { (x : Self) (v : Self.V) → known (vsock_as x v) ≡ with_vsock (known x) (Self.V.known v) };
 
+    ghost guest_words_set: { (x : Self) (g : Self.G) →
+        known (guest_words_as x g) ≡ with_guest_words (known x) (Self.G.known g) };
+
     ghost trace_set: { (x : Self) (t : Self.T) → known (trace_as x t) ≡ with_trace (known x) (Self.T.known t) };
 }
 
 /// A host, and the trace of what its actors do.
 #[derive(Drop)]
-pub struct TracedHost<D, L, V, C, T> {
-    pub host: Host<D, L, V, C>,
+pub struct TracedHost<D, L, V, G, C, T> {
+    pub host: Host<D, L, V, G, C>,
     pub trace: T,
 }
 
@@ -81,9 +93,10 @@ impl<
     D: Disk + Send,
     L: Link + Send,
     V: VsockHost + Send,
+    G: GuestWords + Send,
     C: Clock + Send,
     T: Trace + Send,
-> TurnObjects for TracedHost<D, L, V, C, T> {
+> TurnObjects for TracedHost<D, L, V, G, C, T> {
     ghost use Rattle.monitor_running.specs.Traced.{traced_known};
 
     type C = C;
@@ -94,9 +107,11 @@ impl<
 
     type V = V;
 
+    type G = G;
+
     type T = T;
 
-    ghost known = { traced_known T.known C.known D.known L.known V.known };
+    ghost known = { traced_known T.known C.known D.known L.known V.known G.known };
 
     ghost clock_as = { λ it clock. record it { host = record it.host { clock = clock } } };
 
@@ -105,6 +120,8 @@ impl<
     ghost link_as = { λ it link. record it { host = record it.host { link = link } } };
 
     ghost vsock_as = { λ it vsock. record it { host = record it.host { vsock = vsock } } };
+
+    ghost guest_words_as = { λ it words. record it { host = record it.host { guest_words = words } } };
 
     ghost trace_as = { λ it trace. record it { trace = trace } };
 
@@ -128,6 +145,11 @@ impl<
         &mut host.vsock
     }
 
+    fn guest_words(&mut self) -> &mut G {
+        let host = &mut self.host;
+        &mut host.guest_words
+    }
+
     fn trace(&mut self) -> &mut T {
         &mut self.trace
     }
@@ -139,6 +161,8 @@ impl<
     ghost link_set = { λ it link. refl };
 
     ghost vsock_set = { λ it vsock. refl };
+
+    ghost guest_words_set = { λ it words. refl };
 
     ghost trace_set = { λ it trace. refl };
 }

@@ -1,11 +1,12 @@
--- The objects of the three kinds are attached one after another.
+-- The objects of the three kinds that have names are attached one after another.
 use Rattle.std.proofs.Common.{◌≡◌, ◌∙◌, sym, ap, subst}
 use Rattle.vm_host.specs.Framing.{LinkKnown}
 use Rattle.vm_host.specs.Hosting.{VsockKnown}
 use Rattle.vm_host.specs.Storing.{DiskKnown}
 use Rattle.flat_machine.specs.Machine.{Machine}
-use Rattle.monitor_machine.specs.Kinds.{DevicesKnown, disks, links, vsocks}
+use Rattle.monitor_machine.specs.Kinds.{DevicesKnown, disks, links, vsocks, words}
 use Rattle.monitor_machine.specs.Objects.{AreNamed, ObjectKind, Uncalled}
+use Rattle.monitor_machine.proofs.Attaching.{uncalled_none, words_beside}
 use Rattle.monitor_running.specs.Asked.{DevicesUncalled, HaveOwn, healths}
 use Rattle.monitor_running.specs.Objects.{TurnKnown, with_devices, with_disk, with_link, with_vsock}
 
@@ -24,7 +25,8 @@ module _ (a b c d : TurnKnown) (disk : b ≡ with_disk a b.host.devices.disk) (l
   all = vsock ∙ ap (λ (k : TurnKnown). with_vsock k d.host.devices.vsock)
       (link ∙ ap (λ (k : TurnKnown). with_link k c.host.devices.link) disk)
 
-  at_last : d.host.devices ≡ record { disk = b.host.devices.disk; link = c.host.devices.link; vsock = d.host.devices.vsock }
+  at_last : d.host.devices
+      ≡ record { disk = b.host.devices.disk; link = c.host.devices.link; vsock = d.host.devices.vsock; words = a.host.devices.words }
   at_last = ap (λ (k : TurnKnown). k.host.devices) all
 
   link_first : b.host.devices.link ≡ a.host.devices.link
@@ -44,6 +46,7 @@ module _ (a b c d : TurnKnown) (disk : b ≡ with_disk a b.host.devices.disk) (l
         disk = of_disk;
         link = subst (λ (l : LinkKnown). Uncalled links l c.host.devices.link) link_first of_link;
         vsock = subst (λ (v : VsockKnown). Uncalled vsocks v d.host.devices.vsock) vsock_first of_vsock;
+        words = uncalled_none words words_beside a.host.devices.words;
       })
 
   pub attached : (m : Machine) → AreNamed disks a.host.devices.disk.health m b.host.devices.disk

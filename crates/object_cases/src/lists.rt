@@ -1,10 +1,12 @@
-// A trace, words and a clock in memory.
+// A trace, words, the words of entropy devices and a clock in memory.
 use crate::showing::Shown;
-use outside_mem::{Failing, MemoryClock, MemoryTrace, MemoryWords, Numbers, SteadyWords};
+use outside_mem::{
+    Failing, MemoryClock, MemoryGuestWords, MemoryTrace, MemoryWords, Numbers, SteadyWords,
+};
 use script_text::Item;
 use serve_host::{Trace, Words};
 use std::alloc::{AllocError, Global};
-use vm_host::Clock;
+use vm_host::{Clock, GuestWords};
 use vm_outside::Failed;
 use vm_types::{ActorId, ByteList, Entry, Op, OutOp, PlaceId, Reply};
 
@@ -14,6 +16,7 @@ pub fn show(alloc: Global, shown: &mut Shown) -> Result<(), AllocError> {
     show_steps(&mut steps_trace(alloc)?, shown);
     shown.show("words: three", &three_words(alloc)?);
     shown.show("steady words: two", &two_words(alloc)?);
+    shown.show("guest words: five", &five_words(alloc)?);
     let mut clock = MemoryClock::new(Numbers::new(Vec::new(alloc)));
     shown.show("clock: now", &clock.now());
     Ok(())
@@ -115,4 +118,20 @@ fn three_words(alloc: Global) -> Result<[Result<u64, Failed>; 3], AllocError> {
 fn two_words(alloc: Global) -> Result<[Result<u64, Failed>; 2], AllocError> {
     let mut words = SteadyWords::new(Numbers::new([7].to_vec(alloc)?));
     Ok([words.next(), words.next()])
+}
+
+// Of two devices; the first call fails, and the last names a third device.
+fn five_words(alloc: Global) -> Result<[Result<u64, Failed>; 5], AllocError> {
+    let calls = [0].to_vec(alloc)?;
+    let mut devices = Vec::new(alloc);
+    devices.push(Numbers::new([5, 6].to_vec(alloc)?))?;
+    devices.push(Numbers::new([7].to_vec(alloc)?))?;
+    let mut words = MemoryGuestWords::new(devices, Failing::new(calls));
+    Ok([
+        words.word(0),
+        words.word(0),
+        words.word(1),
+        words.word(0),
+        words.word(2),
+    ])
 }

@@ -6,7 +6,7 @@ use host_real::{Bell, DiskFiles, RandomWords, SystemClock, TraceFile};
 use script_text::Item;
 use serve_host::{Trace, Words};
 use std::{fs, io};
-use vm_host::{Clock, Disk};
+use vm_host::{Clock, Disk, GuestWords};
 use vm_outside::Failed;
 use vm_types::ActorId;
 
@@ -195,6 +195,8 @@ fn show_written(rt: &HostRuntime, shown: &mut Shown) -> io::Result<()> {
 fn show_words(words: &mut RandomWords<'_, HostRuntime>, shown: &mut Shown) {
     let is_other = words.next() != words.next();
     shown.show("random words: differ, failed", &(is_other, words.faults()));
+    let is_own = words.word(0) != words.word(1);
+    shown.show("guest words: differ, failed", &(is_own, words.faults()));
 }
 
 fn is_later(rt: &HostRuntime) -> bool {

@@ -1,4 +1,5 @@
 pub mod Giving
+pub mod GuestWords
 pub mod Naming
 pub mod ReadPieces
 pub mod Steps

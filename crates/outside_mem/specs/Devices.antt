@@ -6,6 +6,7 @@ use Rattle.vm_host.specs.Framing.{Wire}
 use Rattle.outside_mem.specs.declared.frame.Frame.{Frame}
 use Rattle.outside_mem.specs.declared.memory_wire.MemoryWire.{MemoryWire}
 use Rattle.outside_mem.specs.declared.names.Names.{Names}
+use Rattle.outside_mem.specs.Listing.{listed}
 
 -- a device without a disk has an empty one
 abbrev pub disk_in : List (List ℕ) → ℕ → List ℕ
@@ -35,3 +36,7 @@ names_in each device = get_or each device attached.Nothing
 
 abbrev pub names_of : Names → ℕ → Attached
 names_of names = names_in names.each
+
+-- the words of each device; one without words has zeros
+abbrev pub words_in : List (List ℕ) → ℕ → ℕ → ℕ
+words_in each device = listed (get_or each device [])

@@ -70,6 +70,7 @@ fn reply_copy(alloc: Global, reply: &HostReply) -> Result<HostReply, AllocError>
         HostReply::Dialled { connection } => HostReply::Dialled {
             connection: *connection,
         },
+        HostReply::Word { word } => HostReply::Word { word: *word },
     };
     Ok(copy)
 }

@@ -1,7 +1,7 @@
 // Numbers that are answered one after another.
 ghost use Rattle.std.specs.Prelude.{◌≡◌};
 ghost use Rattle.outside_mem.specs.Listing.{listed};
-ghost use Rattle.serve_host.specs.Drawing.{IsDrawn};
+ghost use Rattle.vm_host.specs.Giving.{IsDrawn};
 
 use std::marker::Model;
 

@@ -13,7 +13,7 @@ use Rattle.vm_types.specs.declared.op.PortOp.TheVariants as act
 use Rattle.vm_types.specs.declared.reply.Reply.{Reply}
 use Rattle.le_fields.specs.Fields.{little_endian}
 use Rattle.port_table.specs.declared.kind.DeviceKind.{DeviceKind}
-use Rattle.port_table.specs.declared.kind.DeviceKind.TheVariants.{Net, Block, Balloon, Vsock}
+use Rattle.port_table.specs.declared.kind.DeviceKind.TheVariants.{Net, Block, Balloon, Vsock, Entropy}
 use Rattle.port_table.specs.declared.kind.Feature.TheVariants.{EventIndex, IndirectDescriptors, Version1}
 use Rattle.port_table.specs.declared.register.Register.{Register}
 use Rattle.port_table.specs.declared.register.Register.TheVariants as register
@@ -75,6 +75,7 @@ no_queue_used Net = refl
 no_queue_used Block = refl
 no_queue_used Balloon = refl
 no_queue_used Vsock = refl
+no_queue_used Entropy = refl
 
 nothing_past : (bytes : List ℕ) → length bytes ≤ 8 → list_all is_zero (drop 8 bytes) ≡ true
 nothing_past bytes short =
@@ -127,6 +128,7 @@ reset_has Balloon config is =
 reset_has Net config is = is
 reset_has Block config is = is
 reset_has Vsock config is = is
+reset_has Entropy config is = is
 
 as_new_is : (p : PortState) → Is p → Is (as_new p)
 as_new_is p is = is_port p.kind p.offered (reset_config p.kind p.config) is.alike (reset_has p.kind p.config is.config)
@@ -159,6 +161,7 @@ written_has Balloon config at piece long is =
 written_has Net config at piece long is = is
 written_has Block config at piece long is = is
 written_has Vsock config at piece long is = is
+written_has Entropy config at piece long is = is
 
 -- where a front of at most n bytes is written over, the bytes from n on stay
 front_over : (n : ℕ) (config piece : List ℕ) → length piece ≤ n → length piece ≤ length config
@@ -175,6 +178,7 @@ few_bytes Net = omega arith
 few_bytes Block = omega arith
 few_bytes Balloon = omega arith
 few_bytes Vsock = omega arith
+few_bytes Entropy = omega arith
 
 with_has : (kind : DeviceKind) (config bytes : List ℕ) → length config ≡ 8 → has_config kind config ≡ true
     → has_config kind (with_config kind config bytes) ≡ true
@@ -188,6 +192,7 @@ zeros_have Net = refl
 zeros_have Block = refl
 zeros_have Balloon = refl
 zeros_have Vsock = refl
+zeros_have Entropy = refl
 
 -- ---- queues
 

@@ -14,7 +14,7 @@ use Rattle.vm_types.specs.declared.reply.Reply.{Reply}
 use Rattle.le_fields.specs.Fields.{IsByte, bytes_of, little_endian}
 use Rattle.le_fields.proofs.Values.{all_bytes, value_below}
 use Rattle.port_table.specs.declared.kind.DeviceKind.{DeviceKind}
-use Rattle.port_table.specs.declared.kind.DeviceKind.TheVariants.{Net, Block, Balloon, Vsock}
+use Rattle.port_table.specs.declared.kind.DeviceKind.TheVariants.{Net, Block, Balloon, Vsock, Entropy}
 use Rattle.port_table.specs.declared.kind.Feature.TheVariants.{EventIndex, IndirectDescriptors, Version1}
 use Rattle.port_table.specs.declared.register.Register.{Register}
 use Rattle.port_table.specs.declared.register.Register.TheVariants as register
@@ -61,6 +61,7 @@ reset_long Balloon config long = halves config (replicate 4 0) long refl
 reset_long Net config long = long
 reset_long Block config long = long
 reset_long Vsock config long = long
+reset_long Entropy config long = long
 
 reset_bytes : (kind : DeviceKind) (config : List ℕ) → All IsByte config → All IsByte (reset_config kind config)
 reset_bytes Balloon config bytes =
@@ -68,6 +69,7 @@ reset_bytes Balloon config bytes =
 reset_bytes Net config bytes = bytes
 reset_bytes Block config bytes = bytes
 reset_bytes Vsock config bytes = bytes
+reset_bytes Entropy config bytes = bytes
 
 config_long : (kind : DeviceKind) (config : List ℕ) (at : ℕ) (piece : List ℕ) → length config ≡ 8
     → length (config_after kind config at piece) ≡ 8
@@ -77,6 +79,7 @@ config_long Balloon config at piece long =
 config_long Net config at piece long = long
 config_long Block config at piece long = long
 config_long Vsock config at piece long = long
+config_long Entropy config at piece long = long
 
 config_small : (kind : DeviceKind) (config : List ℕ) (at : ℕ) (piece : List ℕ) → All IsByte config → All IsByte piece
     → All IsByte (config_after kind config at piece)
@@ -86,6 +89,7 @@ config_small Balloon config at piece old new =
 config_small Net config at piece old new = old
 config_small Block config at piece old new = old
 config_small Vsock config at piece old new = old
+config_small Entropy config at piece old new = old
 
 -- ---- as new
 

@@ -9,6 +9,7 @@ pub enum DeviceKind {
     Block,
     Balloon,
     Vsock,
+    Entropy,
 }
 
 /// A feature that a device may offer (VIRTIO 1.2, 6 and "Feature bits" of each type).
@@ -60,6 +61,7 @@ impl DeviceKind {
             DeviceKind::Block => 2,
             DeviceKind::Balloon => 5,
             DeviceKind::Vsock => 19,
+            DeviceKind::Entropy => 4,
         }
     }
 
@@ -73,6 +75,7 @@ impl DeviceKind {
             DeviceKind::Block => 1,
             DeviceKind::Balloon => 3,
             DeviceKind::Vsock => 3,
+            DeviceKind::Entropy => 1,
         }
     }
 
@@ -84,6 +87,7 @@ impl DeviceKind {
         match self {
             DeviceKind::Net => 6,
             DeviceKind::Block | DeviceKind::Balloon | DeviceKind::Vsock => 8,
+            DeviceKind::Entropy => 0,
         }
     }
 }

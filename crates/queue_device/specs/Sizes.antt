@@ -13,7 +13,7 @@ use Rattle.queue_device.specs.declared.lanes.Lane.{Lane}
 use Rattle.queue_device.specs.declared.phase.Phase.{Phase}
 use Rattle.queue_device.specs.declared.phase.Phase.TheVariants as phase
 
--- ---- a reply: bytes, numbers of 64 bits, numbers of connections of 32, and queues whose sizes have 16
+-- ---- a reply: bytes, numbers and words of 64 bits, numbers of connections of 32, and queues whose sizes have 16
 
 pub record IsSmallShown (q : QueueShown) : Type 0 where
   pub descriptors : q.descriptors < 2 ^ 64
@@ -28,6 +28,7 @@ IsSmallReply (Reply.Port look) = IsSmallShown look.first × IsSmallShown look.se
 IsSmallReply (Reply.Opened connection) = connection < 2 ^ 32
 IsSmallReply (Reply.Received piece connection) = (length piece ≤ 64) × All IsByte piece × (connection < 2 ^ 32)
 IsSmallReply (Reply.Dialled connection) = connection < 2 ^ 32
+IsSmallReply (Reply.Drawn word) = word < 2 ^ 64
 IsSmallReply reply = Unit {0}
 
 -- a reply fits its act, and is small where each one is

@@ -6,8 +6,8 @@ use firecracker_cli::{ServeOutside, firecracker_main};
 use monitor_cli::{Outside, replay_main};
 use monitor_running::TracedHost;
 use outside_mem::{
-    Failing, MemoryDisk, MemoryFiles, MemoryLink, MemorySink, MemorySource, MemoryTrace,
-    MemoryVsock, Numbers, SteadyWords,
+    Failing, MemoryDisk, MemoryFiles, MemoryGuestWords, MemoryLink, MemorySink, MemorySource,
+    MemoryTrace, MemoryVsock, Numbers, SteadyWords,
 };
 use script_text::{Item, write_item};
 use std::alloc::{AllocError, Global};
@@ -24,6 +24,7 @@ pub type With = ServeOutside<
     MemoryDisk,
     MemoryLink,
     MemoryVsock,
+    MemoryGuestWords,
     Ticks,
     SteadyWords,
     Door,
@@ -96,6 +97,11 @@ pub fn no_vsock(alloc: Global) -> MemoryVsock {
     MemoryVsock::new(alloc, coming, answers, Failing::new(Vec::new(alloc)))
 }
 
+/// No words for entropy devices.
+pub fn no_words(alloc: Global) -> MemoryGuestWords {
+    MemoryGuestWords::new(Vec::new(alloc), Failing::new(Vec::new(alloc)))
+}
+
 /// The objects that a session is handed. The lineage is 77, and moments are 25 ns apart, so that the first slice ends before
 /// 299,008 ns.
 pub fn with_of(alloc: Global, session: &Session, disk: &[u8]) -> Result<With, AllocError> {
@@ -103,6 +109,7 @@ pub fn with_of(alloc: Global, session: &Session, disk: &[u8]) -> Result<With, Al
         disk: disk_of(alloc, session, disk)?,
         link: no_link(alloc),
         vsock: no_vsock(alloc),
+        guest_words: no_words(alloc),
         clock: Ticks::new(25),
     };
     let words = SteadyWords::new(Numbers::new([77].to_vec(alloc)?));

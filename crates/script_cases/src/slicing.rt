@@ -6,12 +6,12 @@ use crate::images::{
     ADDS_AND_ENDS, ADDS_TO_ONE_WORD, ENDS, GO_THEIR_WAYS, WAITS_AND_ENDS, WRITES_AND_ENDS,
 };
 use crate::playing::{NOBODY, Player, are_alike, machine_of, play_all, word_at};
-use crate::sessions::{no_link, no_vsock};
+use crate::sessions::{no_link, no_vsock, no_words};
 use crate::showing::text_of;
 use crate::ticking::Ticks;
 use monitor_machine::LiveMachine;
 use monitor_running::{Pace, Ran, Steering, TracedHost, run_while};
-use outside_mem::{Failing, MemoryDisk, MemoryLink, MemorySink, MemoryVsock};
+use outside_mem::{Failing, MemoryDisk, MemoryGuestWords, MemoryLink, MemorySink, MemoryVsock};
 use pause_gate::{FlagGate, Gate, HoldGate, Party, Pass};
 use std::alloc::{AllocError, Global};
 use std::io;
@@ -164,7 +164,7 @@ fn party(hart: u8, page: u32) -> Party {
 struct Running<'a> {
     machine: LiveMachine,
     other: LiveMachine,
-    turns: TracedHost<MemoryDisk, MemoryLink, MemoryVsock, Ticks, Player<'a>>,
+    turns: TracedHost<MemoryDisk, MemoryLink, MemoryVsock, MemoryGuestWords, Ticks, Player<'a>>,
     sink: MemorySink,
 }
 
@@ -190,11 +190,12 @@ fn player_of<'a>(alloc: Global, row: &Row, gate: &'a HoldGate) -> Result<Player<
 }
 
 // Without a disk, a link or a socket.
-fn host_of(alloc: Global) -> Host<MemoryDisk, MemoryLink, MemoryVsock, Ticks> {
+fn host_of(alloc: Global) -> Host<MemoryDisk, MemoryLink, MemoryVsock, MemoryGuestWords, Ticks> {
     Host {
         disk: MemoryDisk::new(alloc, Vec::new(alloc), Failing::new(Vec::new(alloc))),
         link: no_link(alloc),
         vsock: no_vsock(alloc),
+        guest_words: no_words(alloc),
         clock: Ticks::new(100),
     }
 }

@@ -6,11 +6,11 @@ use Rattle.std.specs.Fmt.{decimal}
 use Rattle.std.specs.Option.{option_map}
 use Rattle.script_text.specs.declared.item.HostReply.{HostReply}
 use Rattle.script_text.specs.declared.item.HostReply.TheVariants as answer
-use Rattle.script_text.specs.Items.{answer_of, numbered_answer, part_of, plain_answer, received_of, short_part}
-use Rattle.script_words.specs.Numbers.{bytes_of, hex_of, number_within, numbered}
+use Rattle.script_text.specs.Items.{answer_of, drawn_answer, numbered_answer, part_of, plain_answer, received_of, short_part}
+use Rattle.script_words.specs.Numbers.{bytes_of, hex_of, number_within, numbered, word_of}
 use Rattle.script_words.specs.Words.{after, bare, or_else, two}
 use Rattle.script_text.specs.Written.{HasAnswerForm, answer_words}
-use Rattle.script_words.proofs.Forms.{numbered_reads, numbered_writes, within_reads, within_writes}
+use Rattle.script_words.proofs.Forms.{numbered_reads, numbered_writes, within_reads, within_writes, word_reads, word_writes}
 use Rattle.script_words.proofs.Hex.{hex_below, hex_reads, hex_writes}
 use Rattle.script_words.proofs.Parting.{after_reads, bare_reads, either, mapped, two_reads, two_writes}
 use Rattle.script_words.proofs.ActorWords.{decimal_lacks, first}
@@ -99,17 +99,30 @@ received_reads words reply is =
     subst (λ (r : HostReply). IsAnswer words r) (sym t.made)
     (line_is (codes "bytes ") words text t.w t.r (decimal t.x) (hex_of t.y) parts t.parts number.0 (hex_reads t.r t.y t.is_rest), (omega (arith, number.2), hex_below t.r t.y t.is_rest)))
 
+drawn_reads : (words : List ℕ) (reply : HostReply) → drawn_answer words ≡ Some reply → IsAnswer words reply
+drawn_reads words reply is =
+    mapped answer.Word (after (codes "word ") word_of words) reply is
+    (λ word by made.
+    after_reads (codes "word ") words word_of word by
+    (λ text parts read.
+    let got = word_reads text word read in
+    subst (λ (r : HostReply). IsAnswer words r) (sym made) (parts ∙ ap (λ (xs : List ℕ). codes "word " ++ xs) got.0, got.1)))
+
 pub answer_reads : (words : List ℕ) (reply : HostReply) → answer_of words ≡ Some reply → IsAnswer words reply
 answer_reads words reply is =
     let part : Option HostReply = after (codes "part ") part_of words in
     let received : Option HostReply = after (codes "bytes ") received_of words in
-    elim (either (plain_answer words) (or_else (numbered_answer words) (or_else part received)) reply is) [
+    let drawn : Option HostReply = drawn_answer words in
+    elim (either (plain_answer words) (or_else (numbered_answer words) (or_else part (or_else received drawn))) reply is) [
       | inl one ↦ plain_reads words reply one
-      | inr more ↦ elim (either (numbered_answer words) (or_else part received) reply more) [
+      | inr more ↦ elim (either (numbered_answer words) (or_else part (or_else received drawn)) reply more) [
         | inl one ↦ numbered_answers words reply one
-        | inr more2 ↦ elim (either part received reply more2) [
+        | inr more2 ↦ elim (either part (or_else received drawn) reply more2) [
           | inl one ↦ part_reads words reply one
-          | inr one ↦ received_reads words reply one
+          | inr more3 ↦ elim (either received drawn reply more3) [
+            | inl one ↦ received_reads words reply one
+            | inr one ↦ drawn_reads words reply one
+          ]
         ]
       ]
     ]
@@ -143,8 +156,11 @@ answer_writes (answer.Part piece) form =
     first (part_of (hex_of piece)) None (answer.Part piece) (part_writes piece form)
 answer_writes (answer.Frame n) form = numbered_writes_as answer.Frame (codes "frame ") 4294967295 n (omega (arith, form)) (omega (arith, form))
 answer_writes (answer.Opened n) form = numbered_writes_as answer.Opened (codes "new ") 4294967295 n (omega (arith, form)) (omega (arith, form))
-answer_writes (answer.Received connection bytes) form = received_writes connection bytes form
+answer_writes (answer.Received connection bytes) form =
+    first (received_of (decimal connection ++ (32 ∷ []) ++ hex_of bytes)) None (answer.Received connection bytes)
+    (received_writes connection bytes form)
 answer_writes (answer.Ended n) form = numbered_writes_as answer.Ended (codes "ended ") 4294967295 n (omega (arith, form)) (omega (arith, form))
 answer_writes (answer.Dialled n) form =
     first (option_map answer.Dialled (numbered (codes "dialled ") 4294967295 (codes "dialled " ++ decimal n))) None (answer.Dialled n)
     (ap (option_map answer.Dialled) (numbered_writes (codes "dialled ") 4294967295 n (omega (arith, form)) (omega (arith, form))))
+answer_writes (answer.Word word) form = ap (option_map answer.Word) (word_writes word form)

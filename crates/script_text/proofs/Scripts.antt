@@ -71,6 +71,7 @@ answer_lacks (answer.Received n bytes) form =
     (hex_lacks bytes)
 answer_lacks (answer.Ended n) form = join (codes "ended ") (decimal n) (plain (codes "ended ") refl) (decimal_lacks n (omega (arith, form)))
 answer_lacks (answer.Dialled n) form = join (codes "dialled ") (decimal n) (plain (codes "dialled ") refl) (decimal_lacks n (omega (arith, form)))
+answer_lacks (answer.Word word) form = join (codes "word ") (word_text word) (plain (codes "word ") refl) (hex_lacks (to_be_bytes w64 word))
 
 body_lacks : (body : List ℕ) → Lacks 10 body → Lacks 10 (body_words body)
 body_lacks [] lacks = lacks

@@ -63,11 +63,16 @@ part_of text = option_and_then short_part (bytes_of text)
 abbrev pub received_of : List ℕ → Option HostReply
 received_of rest = two (number_within 0 4294967295) bytes_of answer.Received rest
 
+-- a word of 64 bits, as sixteen digits
+abbrev pub drawn_answer : List ℕ → Option HostReply
+drawn_answer rest = option_map answer.Word (after (codes "word ") word_of rest)
+
 abbrev pub answer_of : List ℕ → Option HostReply
 answer_of rest =
     or_else (plain_answer rest)
     (or_else (numbered_answer rest)
-    (or_else (after (codes "part ") part_of rest) (after (codes "bytes ") received_of rest)))
+    (or_else (after (codes "part ") part_of rest)
+    (or_else (after (codes "bytes ") received_of rest) (drawn_answer rest))))
 
 -- `reply ACTOR R`
 abbrev pub reply_of : List ℕ → Option Item

@@ -23,6 +23,7 @@ answer_words (answer.Opened connection) = codes "new " ++ decimal connection
 answer_words (answer.Received connection bytes) = codes "bytes " ++ decimal connection ++ codes " " ++ hex_of bytes
 answer_words (answer.Ended connection) = codes "ended " ++ decimal connection
 answer_words (answer.Dialled connection) = codes "dialled " ++ decimal connection
+answer_words (answer.Word word) = codes "word " ++ word_text word
 
 abbrev pub body_words : List ℕ → List ℕ
 body_words [] = []
@@ -62,6 +63,7 @@ HasAnswerForm (answer.Opened connection) = connection < 2 ^ 32
 HasAnswerForm (answer.Received connection bytes) = (connection < 2 ^ 32) × AreBytes bytes
 HasAnswerForm (answer.Ended connection) = connection < 2 ^ 32
 HasAnswerForm (answer.Dialled connection) = connection < 2 ^ 32
+HasAnswerForm (answer.Word word) = word < 2 ^ 64
 
 abbrev pub HasForm : Item → Type 0
 HasForm item.Nothing = Unit {0}

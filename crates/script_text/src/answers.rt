@@ -1,10 +1,12 @@
 // What a host object is said to answer.
 ghost use Rattle.std.specs.Prelude.{◌≡◌, codes, IfOk};
-ghost use Rattle.script_text.specs.Items.{answer_of, numbered_answer, part_of, plain_answer, received_of, short_part};
+ghost use Rattle.script_text.specs.Items.{answer_of, drawn_answer, numbered_answer, part_of, plain_answer, received_of, short_part};
 ghost use Rattle.script_words.specs.Words.{after};
 
 use crate::item::HostReply;
-use script_words::{behind, bytes_from, cut, is_line, number_within, numbered, numbered_32};
+use script_words::{
+    behind, bytes_from, cut, is_line, number_within, numbered, numbered_32, word_from,
+};
 use std::alloc::{AllocError, Global};
 use vm_types::Piece;
 
@@ -21,7 +23,10 @@ pub fn answer_from(alloc: Global, rest: &[u8]) -> Result<Option<HostReply>, Allo
     if let Some(reply) = part_answer(alloc, rest)? {
         return Ok(Some(reply));
     }
-    Ok(received_answer(alloc, rest)?)
+    if let Some(reply) = received_answer(alloc, rest)? {
+        return Ok(Some(reply));
+    }
+    Ok(drawn_answer(alloc, rest)?)
 }
 
 fn plain_answer(rest: &[u8]) -> Option<HostReply>
@@ -112,6 +117,19 @@ fn received_from(alloc: Global, text: &[u8]) -> Result<Option<HostReply>, AllocE
             connection: connection as u32,
             bytes,
         })),
+        None => Ok(None),
+    }
+}
+
+// `word W`
+fn drawn_answer(alloc: Global, rest: &[u8]) -> Result<Option<HostReply>, AllocError>
+    ensures { IfOk result (λ reply. reply ≡ drawn_answer rest.now) }
+{
+    let Some(text) = behind(b"word ", rest) else {
+        return Ok(None);
+    };
+    match word_from(alloc, text)? {
+        Some(word) => Ok(Some(HostReply::Word { word })),
         None => Ok(None),
     }
 }

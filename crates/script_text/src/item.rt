@@ -24,6 +24,8 @@ pub enum HostReply {
     Ended { connection: u32 },
     /// `dialled C`: the connection that was dialled.
     Dialled { connection: u32 },
+    /// `word W`: a word of random bits, as 16 digits.
+    Word { word: u64 },
 }
 
 /// A line of a script.

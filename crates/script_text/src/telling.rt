@@ -4,7 +4,7 @@ ghost use Rattle.script_text.specs.declared.item.HostReply.TheVariants as answer
 ghost use Rattle.script_text.specs.Written.{answer_words};
 
 use crate::item::HostReply;
-use script_words::{append_hex, numbered_words};
+use script_words::{append_hex, append_word, numbered_words};
 use std::alloc::{AllocError, Global};
 use vm_types::ByteList;
 
@@ -29,6 +29,7 @@ pub fn answer_words(alloc: Global, reply: &HostReply) -> Result<ByteList, AllocE
         HostReply::Dialled { connection } => {
             Ok(numbered_words(alloc, b"dialled ", *connection as u64)?)
         }
+        HostReply::Word { word } => Ok(drawn_words(alloc, *word)?),
     }
 }
 
@@ -46,5 +47,13 @@ fn received_words(alloc: Global, connection: u32, bytes: &[u8]) -> Result<ByteLi
     let mut words = numbered_words(alloc, b"bytes ", connection as u64)?;
     words.append(b" ")?;
     append_hex(&mut words, bytes)?;
+    Ok(words)
+}
+
+fn drawn_words(alloc: Global, word: u64) -> Result<ByteList, AllocError>
+    ensures { IfOk result (λ words. words ≡ answer_words (answer.Word word)) }
+{
+    let mut words = ByteList::copy_of(alloc, b"word ")?;
+    append_word(&mut words, word)?;
     Ok(words)
 }

@@ -24,6 +24,7 @@ host_reply (Reply.Opened connection) = given.Opened connection
 host_reply (Reply.Received piece connection) = given.Received connection piece
 host_reply (Reply.Ended connection) = given.Ended connection
 host_reply (Reply.Dialled connection) = given.Dialled connection
+host_reply (Reply.Drawn word) = given.Word word
 host_reply reply = given.Failed
 
 -- an act on a host object is told with its reply, and another event by its actor

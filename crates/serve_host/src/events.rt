@@ -43,6 +43,7 @@ pub fn host_reply(alloc: Global, reply: &Reply) -> Result<HostReply, AllocError>
         Reply::Dialled { connection } => HostReply::Dialled {
             connection: *connection,
         },
+        Reply::Drawn { word } => HostReply::Word { word: *word },
         _ => HostReply::Failed,
     };
     Ok(said)

@@ -52,6 +52,7 @@ use Rattle.snap_devices.proofs.BalloonFits.{balloon_fits}
 use Rattle.snap_devices.proofs.Forms.{stands}
 use Rattle.snap_devices.proofs.PieceFits.{accepted_few, begun_fits, break_fits, collect_fits, hand_fits, maybe_fits, parts_fit, registers_fit, return_fits, shown_of, waiting_fits}
 use Rattle.snap_devices.proofs.LimitsFits.{bucket_by}
+use Rattle.snap_devices.proofs.EntropyFits.{entropy_fits}
 use Rattle.snap_devices.proofs.NetFits.{net_fits}
 use Rattle.snap_devices.proofs.VsockFits.{vsock_fits}
 use Rattle.block_device.specs.Block.{block as service_of}
@@ -273,3 +274,6 @@ device_fits (kept.Vsock v) is saved narrow few port =
 device_fits (kept.Balloon b) is saved narrow few port =
     let both = and_parts (is_state_kept (kept_of (kept.Balloon b))) (is_sized (kept_of (kept.Balloon b))) is in
     (fits8 2 (omega arith), (refl, balloon_fits b both.0 few port narrow.0 narrow.1 narrow.2 narrow.3))
+device_fits (kept.Entropy e) is saved narrow few port =
+    let both = and_parts (is_state_kept (kept_of (kept.Entropy e))) (is_sized (kept_of (kept.Entropy e))) is in
+    (fits8 4 (omega arith), (refl, entropy_fits e both.0 few port narrow.0 narrow.1 narrow.2 narrow.3))

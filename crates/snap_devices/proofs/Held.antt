@@ -37,6 +37,10 @@ use Rattle.snap_devices.specs.Vsocks as vsocks
 use Rattle.balloon_device.specs.declared.kind.Stage.{Stage}
 use Rattle.balloon_device.specs.declared.kind.Stage.TheVariants as at
 use Rattle.balloon_device.specs.Work.{Kept}
+use Rattle.entropy_device.specs.declared.kind.Stage as entropy_stages
+use Rattle.entropy_device.specs.declared.kind.Stage.TheVariants as entropy_at
+use Rattle.entropy_device.specs.Work as entropy_work
+use Rattle.snap_devices.specs.Entropies as entropies
 use Rattle.guest_devices.specs.declared.device.Device.{Device}
 use Rattle.guest_devices.specs.declared.device.Device.TheVariants as kept
 use Rattle.snap_devices.specs.declared.file.FileBlock.{FileBlock}
@@ -55,6 +59,7 @@ use Rattle.snap_devices.specs.Queues.{collect, held, maybe_queue, maybe_walk, pa
 use Rattle.snap_devices.specs.Rounds.{lane, next_due, rounds}
 use Rattle.snap_devices.proofs.BalloonNarrow.{HoldsBalloon, HoldsStage}
 use Rattle.snap_devices.proofs.DeviceNarrow.{HoldsBytes}
+use Rattle.snap_devices.proofs.EntropyNarrow.{HoldsEntropy, HoldsWord}
 use Rattle.snap_devices.proofs.RoundsNarrow.{AreAllHeld}
 use Rattle.snap_devices.proofs.NetNarrow.{HoldsNet, HoldsPiece}
 use Rattle.snap_devices.proofs.VsockNarrow.{HoldsAct, HoldsPacket, HoldsVsock}
@@ -242,6 +247,25 @@ balloon_held b is =
     let e = behind (number64.bytes b.kind.own.last) _ d in
     (stage_held b.kind.stage (behind (statistics.bytes b.kind.own.statistics) _ e), rounds_held b.rounds (front (rounds.bytes b.rounds) _ is), place_held b.phase (front (place.bytes b.phase) _ a))
 
+-- ---- an entropy device
+
+word_held : (s : entropy_stages.Stage) → IsBytes (entropies.stage.bytes s) → HoldsWord s
+unfolding entropies.stage
+word_held entropy_at.Rest is = tt
+word_held (entropy_at.Draw len index to) is = tt
+word_held (entropy_at.Write len index spill) is =
+    let a = behind (byte.bytes 2) _ is in
+    let b = behind (number32.bytes len) _ a in
+    let c = behind (number32.bytes index) _ b in
+    bytes_held spill.held (behind (parts.bytes spill.to) (held.bytes spill.held) c)
+
+entropy_held : (e : QueueRounds entropy_work.Kept) → IsBytes (entropies.entropy.bytes e) → HoldsEntropy e
+unfolding entropies.entropy entropies.entropy_fields entropies.kind entropies.kind_fields
+entropy_held e is =
+    let a = behind (rounds.bytes e.rounds) _ is in
+    let c = behind (place.bytes e.phase) _ a in
+    (word_held e.kind.stage (behind (limits.bytes e.kind.own.limits) _ c), rounds_held e.rounds (front (rounds.bytes e.rounds) _ is), place_held e.phase (front (place.bytes e.phase) _ a))
+
 -- ---- a network device
 
 text_held : (bytes : List ℕ) → IsBytes (nets.text.bytes bytes) → All IsByte bytes
@@ -334,3 +358,4 @@ device_held (kept.Block b) is = block_held b (behind (byte.bytes 1) (block.bytes
 device_held (kept.Net n) is = net_held n (behind (byte.bytes 0) (nets.net.bytes n) is)
 device_held (kept.Vsock v) is = vsock_held v (behind (byte.bytes 3) (vsocks.vsock.bytes v) is)
 device_held (kept.Balloon b) is = balloon_held b (behind (byte.bytes 2) (balloon.bytes b) is)
+device_held (kept.Entropy e) is = entropy_held e (behind (byte.bytes 4) (entropies.entropy.bytes e) is)

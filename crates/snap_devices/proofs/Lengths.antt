@@ -3,7 +3,7 @@ use Rattle.std.proofs.Common.{◌≡◌, ℕ, suc, ◌+◌, Bool, true, false, L
 use Rattle.std.specs.List.{flat_map}
 use Rattle.file_format.specs.Kinds.{byte, flag, number32, number64, times}
 use Rattle.port_table.specs.declared.kind.DeviceKind.{DeviceKind}
-use Rattle.port_table.specs.declared.kind.DeviceKind.TheVariants.{Net, Block, Balloon, Vsock}
+use Rattle.port_table.specs.declared.kind.DeviceKind.TheVariants.{Net, Block, Balloon, Vsock, Entropy}
 use Rattle.port_table.specs.declared.state.PortQueue.{PortQueue}
 use Rattle.port_table.specs.declared.state.PortState.{PortState}
 use Rattle.snap_devices.specs.Ports.{kind, port, port_fields, port_queue}
@@ -17,6 +17,7 @@ kind_long Net = refl
 kind_long Block = refl
 kind_long Balloon = refl
 kind_long Vsock = refl
+kind_long Entropy = refl
 
 flag_long : (b : Bool) → length (flag.bytes b) ≡ 1
 unfolding flag

@@ -1,6 +1,8 @@
 pub mod BalloonFits
 pub mod BalloonNarrow
 pub mod DeviceNarrow
+pub mod EntropyFits
+pub mod EntropyNarrow
 pub mod Fits
 pub mod Forms
 pub mod Held

@@ -41,7 +41,7 @@ piece_fits : (bytes : List ℕ) → length bytes ≤ 64 → piece.Fits bytes
 unfolding piece
 piece_fits bytes most = (fits_bytes bytes (omega (arith, most)), le-leb (length bytes) 64 most)
 
-limits_fit : (b : Buckets) → AreSmallLimits b → limits.Fits b
+pub limits_fit : (b : Buckets) → AreSmallLimits b → limits.Fits b
 unfolding limits
 limits_fit b small = (bucket_by b.bandwidth small.0, bucket_by b.ops small.1)
 

@@ -30,7 +30,7 @@ piece_most : (bytes : List ℕ) → piece.Fits bytes → length bytes ≤ 64
 unfolding piece
 piece_most bytes own = leb-true (length bytes) 64 own.1
 
-limits_narrow : (b : Buckets) → limits.Fits b → AreSmallLimits b
+pub limits_narrow : (b : Buckets) → limits.Fits b → AreSmallLimits b
 unfolding limits
 limits_narrow b own = (buckets_of b.bandwidth own.0, buckets_of b.ops own.1)
 

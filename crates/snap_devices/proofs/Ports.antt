@@ -4,7 +4,7 @@ use Rattle.file_format.specs.Kinds.{byte}
 use Rattle.file_format.proofs.Fitting.{every, fits8, fits32, fits64, fits_flag, fits_times}
 use Rattle.le_fields.specs.Fields.{IsByte}
 use Rattle.port_table.specs.declared.kind.DeviceKind.{DeviceKind}
-use Rattle.port_table.specs.declared.kind.DeviceKind.TheVariants.{Net, Block, Balloon, Vsock}
+use Rattle.port_table.specs.declared.kind.DeviceKind.TheVariants.{Net, Block, Balloon, Vsock, Entropy}
 use Rattle.port_table.specs.declared.state.PortQueue.{PortQueue}
 use Rattle.port_table.specs.declared.state.PortState.{PortState}
 use Rattle.port_table.specs.Sizes.{IsKept, IsSized, IsSizedQueue}
@@ -16,6 +16,7 @@ kind_fits Net = (fits8 0 (omega arith), refl)
 kind_fits Block = (fits8 1 (omega arith), refl)
 kind_fits Balloon = (fits8 2 (omega arith), refl)
 kind_fits Vsock = (fits8 3 (omega arith), refl)
+kind_fits Entropy = (fits8 4 (omega arith), refl)
 
 queue_fits : (q : PortQueue) → IsSizedQueue q → port_queue.Fits q
 unfolding port_queue

@@ -17,6 +17,8 @@ use Rattle.vsock_device.specs.States as vsocks
 use Rattle.vsock_device.specs.Work.{is_fetching}
 use Rattle.balloon_device.specs.States as balloons
 use Rattle.balloon_device.specs.Work as balloon_work
+use Rattle.entropy_device.specs.States as entropies
+use Rattle.entropy_device.specs.Work as entropy_work
 use Rattle.guest_devices.specs.declared.device.Device.{Device}
 use Rattle.guest_devices.specs.declared.device.Device.TheVariants as kept
 use Rattle.snap_devices.specs.declared.file.FileBlock.{FileBlock}
@@ -24,6 +26,7 @@ use Rattle.snap_devices.specs.declared.file.FileMore.{FileMore}
 use Rattle.snap_devices.specs.Balloons.{balloon, balloon_fields}
 use Rattle.snap_devices.specs.Blocks.{block, block_fields}
 use Rattle.snap_devices.specs.Devices.{device, devices}
+use Rattle.snap_devices.specs.Entropies.{entropy, entropy_fields}
 use Rattle.snap_devices.specs.Forms.{is_form, kept_of}
 use Rattle.snap_devices.specs.Limits.{end_of_device}
 use Rattle.snap_devices.specs.Nets.{net, net_fields}
@@ -74,13 +77,14 @@ reads_as given rest f m o read end is = with_end given rest f (Some m) read end 
 
 -- ---- a device
 
-pub other_kind : (code : ℕ) (given : List ℕ) → (code ≡ 0 → ⊥) → (code ≡ 1 → ⊥) → (code ≡ 2 → ⊥) → (code ≡ 3 → ⊥)
+pub other_kind : (code : ℕ) (given : List ℕ) → (code ≡ 0 → ⊥) → (code ≡ 1 → ⊥) → (code ≡ 2 → ⊥) → (code ≡ 3 → ⊥) → (code ≡ 4 → ⊥)
     → (devices code).reads given ≡ None
-other_kind zero given first one two three = absurd (first refl)
-other_kind (suc zero) given first one two three = absurd (one refl)
-other_kind (suc (suc zero)) given first one two three = absurd (two refl)
-other_kind (suc (suc (suc zero))) given first one two three = absurd (three refl)
-other_kind (suc (suc (suc (suc n)))) given first one two three = refl
+other_kind zero given first one two three four = absurd (first refl)
+other_kind (suc zero) given first one two three four = absurd (one refl)
+other_kind (suc (suc zero)) given first one two three four = absurd (two refl)
+other_kind (suc (suc (suc zero))) given first one two three four = absurd (three refl)
+other_kind (suc (suc (suc (suc zero)))) given first one two three four = absurd (four refl)
+other_kind (suc (suc (suc (suc (suc n))))) given first one two three four = refl
 
 pub kind_bad : (given : List ℕ) → byte.reads given ≡ None → device.reads given ≡ None
 unfolding device
@@ -129,7 +133,7 @@ module _ {A : Type 0} (test : A → Bool) (fields : Format A) where
       → None ≡ (if test a then Some a else None) → (passing test fields).reads given ≡ None
   passed_refused given rest a read is = ap (option_and_then passed_if) read ∙ none_read (test a) a rest is
 
--- a network device, a balloon and a vsock device are read where they are in a state that they may be in
+-- a network device, a balloon, an entropy device and a vsock device are read where they are in a state that they may be in
 
 pub net_read : (given rest : List ℕ) (n it : QueueRounds net_work.Kept) → net_fields.reads given ≡ Some (n, rest)
     → Some it ≡ (if nets.is_state n then Some n else None) → net.reads given ≡ Some (it, rest)
@@ -150,6 +154,16 @@ pub balloon_refused : (given rest : List ℕ) (b : QueueRounds balloon_work.Kept
     → None ≡ (if balloons.is_state b then Some b else None) → balloon.reads given ≡ None
 unfolding balloon
 balloon_refused given rest b read is = passed_refused balloons.is_state balloon_fields given rest b read is
+
+pub entropy_read : (given rest : List ℕ) (e it : QueueRounds entropy_work.Kept) → entropy_fields.reads given ≡ Some (e, rest)
+    → Some it ≡ (if entropies.is_state e then Some e else None) → entropy.reads given ≡ Some (it, rest)
+unfolding entropy
+entropy_read given rest e it read is = passed_read entropies.is_state entropy_fields given rest e it read is
+
+pub entropy_refused : (given rest : List ℕ) (e : QueueRounds entropy_work.Kept) → entropy_fields.reads given ≡ Some (e, rest)
+    → None ≡ (if entropies.is_state e then Some e else None) → entropy.reads given ≡ None
+unfolding entropy
+entropy_refused given rest e read is = passed_refused entropies.is_state entropy_fields given rest e read is
 
 pub vsock_read : (given rest : List ℕ) (v it : QueueRounds VsockKind) → vsock_fields.reads given ≡ Some (v, rest)
     → Some it ≡ (if vsocks.is_state v then Some v else None) → vsock.reads given ≡ Some (it, rest)
@@ -193,6 +207,16 @@ pub balloon_none : (given rest : List ℕ) → byte.reads given ≡ Some (2, res
 balloon_none given rest read is =
     kind_read given rest 2 None read (ap (option_and_then (λ (a : QueueRounds balloon_work.Kept). Some (kept.Balloon a))) is)
 
+pub entropy_is : (given rest : List ℕ) (e : QueueRounds entropy_work.Kept) → byte.reads given ≡ Some (4, rest)
+    → (whole entropy).reads rest ≡ Some e → device.reads given ≡ Some (kept.Entropy e)
+entropy_is given rest e read is =
+    kind_read given rest 4 (Some (kept.Entropy e)) read (ap (option_and_then (λ (a : QueueRounds entropy_work.Kept). Some (kept.Entropy a))) is)
+
+pub entropy_none : (given rest : List ℕ) → byte.reads given ≡ Some (4, rest) → (whole entropy).reads rest ≡ None
+    → device.reads given ≡ None
+entropy_none given rest read is =
+    kind_read given rest 4 None read (ap (option_and_then (λ (a : QueueRounds entropy_work.Kept). Some (kept.Entropy a))) is)
+
 pub vsock_is : (given rest : List ℕ) (v : QueueRounds VsockKind) → byte.reads given ≡ Some (3, rest)
     → (whole vsock).reads rest ≡ Some v → device.reads given ≡ Some (kept.Vsock v)
 vsock_is given rest v read is =
@@ -204,8 +228,9 @@ vsock_none given rest read is =
     kind_read given rest 3 None read (ap (option_and_then (λ (a : QueueRounds VsockKind). Some (kept.Vsock a))) is)
 
 pub other_none : (given rest : List ℕ) (code : ℕ) → byte.reads given ≡ Some (code, rest) → (code ≡ 0 → ⊥) → (code ≡ 1 → ⊥)
-    → (code ≡ 2 → ⊥) → (code ≡ 3 → ⊥) → device.reads given ≡ None
-other_none given rest code read first one two three = kind_read given rest code None read (other_kind code rest first one two three)
+    → (code ≡ 2 → ⊥) → (code ≡ 3 → ⊥) → (code ≡ 4 → ⊥) → device.reads given ≡ None
+other_none given rest code read first one two three four =
+    kind_read given rest code None read (other_kind code rest first one two three four)
 
 -- ---- a header that isn't whole
 

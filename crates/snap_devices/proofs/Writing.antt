@@ -8,12 +8,14 @@ use Rattle.block_device.specs.States.{is_state}
 use Rattle.net_device.specs.Work as net_work
 use Rattle.vsock_device.specs.declared.kind.VsockKind.{VsockKind}
 use Rattle.balloon_device.specs.Work as balloon_work
+use Rattle.entropy_device.specs.Work as entropy_work
 use Rattle.guest_devices.specs.declared.device.Device.{Device}
 use Rattle.guest_devices.specs.declared.device.Device.TheVariants as kept
 use Rattle.snap_devices.specs.declared.file.FileMore.{FileMore}
 use Rattle.snap_devices.specs.Balloons.{balloon}
 use Rattle.snap_devices.specs.Blocks.{block, block_fields}
 use Rattle.snap_devices.specs.Devices.{device}
+use Rattle.snap_devices.specs.Entropies.{entropy}
 use Rattle.snap_devices.specs.Forms.{block_filed, more_filed}
 use Rattle.snap_devices.specs.Limits.{end_of_device}
 use Rattle.snap_devices.specs.Nets.{net}
@@ -78,6 +80,15 @@ balloon_put b old mid new fits put end = record {
       end ∙ balloon.same b mid ∙ ap (λ (x : List ℕ). x ++ balloon.bytes b) put ∙ append_assoc old (2 ∷ []) (balloon.bytes b);
 }
 
+entropy_put : (e : QueueRounds entropy_work.Kept) (old mid new : List ℕ) → entropy.Fits e → mid ≡ byte.puts 4 old
+    → new ≡ entropy.puts e mid → DeviceWritten (kept.Entropy e) old new
+unfolding device byte
+entropy_put e old mid new fits put end = record {
+  fits = (omega arith, (refl, fits));
+  bytes =
+      end ∙ entropy.same e mid ∙ ap (λ (x : List ℕ). x ++ entropy.bytes e) put ∙ append_assoc old (4 ∷ []) (entropy.bytes e);
+}
+
 vsock_put : (v : QueueRounds VsockKind) (old mid new : List ℕ) → vsock.Fits v → mid ≡ byte.puts 3 old
     → new ≡ vsock.puts v mid → DeviceWritten (kept.Vsock v) old new
 unfolding device byte
@@ -100,6 +111,11 @@ pub balloon_device : (d : Device) (b : QueueRounds balloon_work.Kept) (old mid n
     → mid ≡ byte.puts 2 old → new ≡ balloon.puts b mid → DeviceWritten d old new
 balloon_device d b old mid new is fits put end =
     subst (λ (it : Device). DeviceWritten it old new) (sym is) (balloon_put b old mid new fits put end)
+
+pub entropy_device : (d : Device) (e : QueueRounds entropy_work.Kept) (old mid new : List ℕ) → d ≡ kept.Entropy e → entropy.Fits e
+    → mid ≡ byte.puts 4 old → new ≡ entropy.puts e mid → DeviceWritten d old new
+entropy_device d e old mid new is fits put end =
+    subst (λ (it : Device). DeviceWritten it old new) (sym is) (entropy_put e old mid new fits put end)
 
 pub vsock_device : (d : Device) (v : QueueRounds VsockKind) (old mid new : List ℕ) → d ≡ kept.Vsock v → vsock.Fits v
     → mid ≡ byte.puts 3 old → new ≡ vsock.puts v mid → DeviceWritten d old new

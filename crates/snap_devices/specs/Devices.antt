@@ -17,10 +17,13 @@ use Rattle.vsock_device.specs.Data.{new_data}
 use Rattle.balloon_device.specs.declared.kind.Stage.TheVariants as balloon_at
 use Rattle.balloon_device.specs.Statistics.{no_statistics}
 use Rattle.balloon_device.specs.Work as balloon_work
+use Rattle.entropy_device.specs.declared.kind.Stage.TheVariants as entropy_at
+use Rattle.entropy_device.specs.Work as entropy_work
 use Rattle.guest_devices.specs.declared.device.Device.{Device}
 use Rattle.guest_devices.specs.declared.device.Device.TheVariants as kept
 use Rattle.snap_devices.specs.Balloons.{balloon}
 use Rattle.snap_devices.specs.Blocks.{block}
+use Rattle.snap_devices.specs.Entropies.{entropy}
 use Rattle.snap_devices.specs.Nets.{net}
 use Rattle.snap_devices.specs.Vsocks.{vsock}
 
@@ -30,6 +33,7 @@ device_code (kept.Net n) = 0
 device_code (kept.Block b) = 1
 device_code (kept.Balloon b) = 2
 device_code (kept.Vsock v) = 3
+device_code (kept.Entropy e) = 4
 
 -- of another device it is one that has done nothing
 abbrev pub block_of : Device → QueueRounds BlockKind
@@ -77,20 +81,33 @@ vsock_of _ = record {
   phase = Between;
 }
 
+abbrev pub entropy_of : Device → QueueRounds entropy_work.Kept
+entropy_of (kept.Entropy e) = e
+entropy_of _ = record {
+  rounds = new_rounds 0 0;
+  kind = record {
+    own = record { limits = record { bandwidth = None; ops = None } };
+    stage = entropy_at.Rest;
+  };
+  phase = Between;
+}
+
 -- and behind it what is kept of it
 abbrev pub devices : ℕ → Listing Device
 devices zero = standing_list kept.Net net_of (whole net) (λ _ _. refl)
 devices (suc zero) = standing_list kept.Block block_of block (λ _ _. refl)
 devices (suc (suc zero)) = standing_list kept.Balloon balloon_of (whole balloon) (λ _ _. refl)
 devices (suc (suc (suc zero))) = standing_list kept.Vsock vsock_of (whole vsock) (λ _ _. refl)
-devices (suc (suc (suc (suc n)))) = no_list
+devices (suc (suc (suc (suc zero)))) = standing_list kept.Entropy entropy_of (whole entropy) (λ _ _. refl)
+devices (suc (suc (suc (suc (suc n))))) = no_list
 
 pub device_code-is : (code : ℕ) (d : Device) → (devices code).Fits d → code ≡ device_code d
 device_code-is zero d fits = sym (ap device_code fits.0)
 device_code-is (suc zero) d fits = sym (ap device_code fits.0)
 device_code-is (suc (suc zero)) d fits = sym (ap device_code fits.0)
 device_code-is (suc (suc (suc zero))) d fits = sym (ap device_code fits.0)
-device_code-is (suc (suc (suc (suc n)))) d fits = absurd fits
+device_code-is (suc (suc (suc (suc zero)))) d fits = sym (ap device_code fits.0)
+device_code-is (suc (suc (suc (suc (suc n))))) d fits = absurd fits
 
 unfoldable pub device : Listing Device
 device = chosen_list byte devices device_code device_code-is

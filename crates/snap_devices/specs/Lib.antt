@@ -5,6 +5,7 @@ pub mod Serving
 pub mod Phases
 pub mod Standing
 pub mod Limits
+pub mod Entropies
 pub mod Forms
 pub mod Blocks
 pub mod Rounds

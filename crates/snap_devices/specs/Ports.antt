@@ -5,7 +5,7 @@ use Rattle.file_format.specs.Format.{Format}
 use Rattle.file_format.specs.Kinds.{byte, number32, number64, flag, times, just, nothing, chosen_by, passing}
 use Rattle.file_format.specs.Kinds.{◌&◌, made_of}
 use Rattle.port_table.specs.declared.kind.DeviceKind.{DeviceKind}
-use Rattle.port_table.specs.declared.kind.DeviceKind.TheVariants.{Net, Block, Balloon, Vsock}
+use Rattle.port_table.specs.declared.kind.DeviceKind.TheVariants.{Net, Block, Balloon, Vsock, Entropy}
 use Rattle.port_table.specs.declared.state.PortQueue.{PortQueue}
 use Rattle.port_table.specs.declared.state.PortState.{PortState}
 use Rattle.port_table.specs.Kept.{is_state}
@@ -17,20 +17,23 @@ kind_code Net = 0
 kind_code Block = 1
 kind_code Balloon = 2
 kind_code Vsock = 3
+kind_code Entropy = 4
 
 abbrev pub kinds : ℕ → Format DeviceKind
 kinds zero = just Net
 kinds (suc zero) = just Block
 kinds (suc (suc zero)) = just Balloon
 kinds (suc (suc (suc zero))) = just Vsock
-kinds (suc (suc (suc (suc n)))) = nothing
+kinds (suc (suc (suc (suc zero)))) = just Entropy
+kinds (suc (suc (suc (suc (suc n))))) = nothing
 
 pub kind_code-is : (code : ℕ) (k : DeviceKind) → (kinds code).Fits k → code ≡ kind_code k
 kind_code-is zero k fits = sym (ap kind_code fits)
 kind_code-is (suc zero) k fits = sym (ap kind_code fits)
 kind_code-is (suc (suc zero)) k fits = sym (ap kind_code fits)
 kind_code-is (suc (suc (suc zero))) k fits = sym (ap kind_code fits)
-kind_code-is (suc (suc (suc (suc n)))) k fits = absurd fits
+kind_code-is (suc (suc (suc (suc zero)))) k fits = sym (ap kind_code fits)
+kind_code-is (suc (suc (suc (suc (suc n))))) k fits = absurd fits
 
 unfoldable pub kind : Format DeviceKind
 kind = chosen_by byte kinds kind_code kind_code-is

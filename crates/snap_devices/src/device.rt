@@ -6,6 +6,7 @@ ghost use Rattle.snap_devices.specs.Devices.{device};
 
 use crate::balloon::{read_balloon, write_balloon};
 use crate::block::{read_block, write_block};
+use crate::entropy::{read_entropy, write_entropy};
 use crate::net::{read_net, write_net};
 use crate::saved::SavedDevice;
 use crate::vsock::{read_vsock, write_vsock};
@@ -31,6 +32,10 @@ fn write_device(it: &Device, out: &mut Vec<u8>) -> Result<(), AllocError>
             2u8.write(out)?;
             write_balloon(balloon, out)?;
         }
+        Device::Entropy(entropy) => {
+            4u8.write(out)?;
+            write_entropy(entropy, out)?;
+        }
         Device::Vsock(vsock) => {
             3u8.write(out)?;
             write_vsock(vsock, out)?;
@@ -39,7 +44,7 @@ fn write_device(it: &Device, out: &mut Vec<u8>) -> Result<(), AllocError>
     Ok(())
 }
 
-#[tactic(auto, using(crate::proofs::Reading::kind_bad, crate::proofs::Reading::block_is, crate::proofs::Reading::block_none, crate::proofs::Reading::net_is, crate::proofs::Reading::net_none, crate::proofs::Reading::balloon_is, crate::proofs::Reading::balloon_none, crate::proofs::Reading::vsock_is, crate::proofs::Reading::vsock_none, crate::proofs::Reading::other_none,))]
+#[tactic(auto, using(crate::proofs::Reading::kind_bad, crate::proofs::Reading::block_is, crate::proofs::Reading::block_none, crate::proofs::Reading::net_is, crate::proofs::Reading::net_none, crate::proofs::Reading::balloon_is, crate::proofs::Reading::balloon_none, crate::proofs::Reading::vsock_is, crate::proofs::Reading::vsock_none, crate::proofs::Reading::entropy_is, crate::proofs::Reading::entropy_none, crate::proofs::Reading::other_none,))]
 fn read_device(alloc: Global, bytes: &[u8]) -> Result<Device, ReadError>
     ensures device { TakesAll device bytes.now result }
     ensures saved { IfOk result (λ it. is_saved it ≡ true) }
@@ -60,6 +65,10 @@ fn read_device(alloc: Global, bytes: &[u8]) -> Result<Device, ReadError>
         },
         Ok(3) => match read_vsock(alloc, &mut input) {
             Ok(vsock) => Ok(Device::Vsock(vsock)),
+            Err(error) => Err(error),
+        },
+        Ok(4) => match read_entropy(alloc, &mut input) {
+            Ok(entropy) => Ok(Device::Entropy(entropy)),
             Err(error) => Err(error),
         },
         Ok(_) => Err(ReadError::Bad),

@@ -1,8 +1,8 @@
 //! Ports and devices as bytes: how a state file has each of them, one encoding for each state.
 //!
 //! `specs/` has the formats: `Ports` of a port, `Devices` of a device by its kind, and under it `Blocks`, `Phases`,
-//! `Serving`, `Queues` and `Limits` of a block device, `Nets` of a network device, `Vsocks` of a vsock device and `Balloons` of
-//! a balloon, each over `Rounds` and `Places`. `Saved<Port>` and
+//! `Serving`, `Queues` and `Limits` of a block device, `Nets` of a network device, `Vsocks` of a vsock device, `Balloons` of a
+//! balloon and `Entropies` of an entropy device, each over `Rounds` and `Places`. `Saved<Port>` and
 //! `SavedDevice` are written and read so (`Stored`, and `Whole` of a device): what is read is the one port or device that
 //! bytes at a front are, exactly where they are the encoding of a state that it may be in. What this takes of memory is no
 //! more than a few times the bytes that are there.
@@ -10,7 +10,7 @@
 //! Numbers are little-endian; a flag is a byte 0 or 1; an option is a flag, and behind a 1 the value; a list is a count
 //! of 4 bytes, and its items.
 //!
-//! A port, 149 bytes: the kind of its device (1 byte: 0 net, 1 block, 2 balloon, 3 vsock); the features that are
+//! A port, 149 bytes: the kind of its device (1 byte: 0 net, 1 block, 2 balloon, 3 vsock, 4 entropy); the features that are
 //! offered and those that were accepted (8 each); DeviceFeaturesSel, DriverFeaturesSel and QueueSel (4 each);
 //! InterruptStatus, Status and ConfigGeneration (4 each); the flag that a reset is asked; three queues; the 8 bytes of
 //! the configuration. A queue, 33 bytes: QueueDesc, QueueDriver and QueueDevice (8 each), QueueNum and QueueReady (4
@@ -20,7 +20,7 @@
 //! it: 0 where there is no queue, walk or chain, and else 1 and what was accepted; a queue's number in front of a walk or a
 //! chain in hand, and the byte of what is due, have four times that added. `specs/Marks` says so.
 //!
-//! A device: its kind (1 byte: 0 net, 1 block, 2 balloon, 3 vsock), and what is kept of it. A block device:
+//! A device: its kind (1 byte: 0 net, 1 block, 2 balloon, 3 vsock, 4 entropy), and what is kept of it. A block device:
 //!
 //! - its data, 67 bytes: the size of the disk in sectors (8); the queue, 30 bytes: its three tables (8 each), its size
 //!   (2) and the guest's pages (4); the drive's id (20); the number of the next chain and how many were given back (2
@@ -51,7 +51,7 @@
 //!   moment of the newest request that passed (8). A chain that waits: its queue, 30 bytes; its head (2); the list of the parts that
 //!   are still needed; the list of the parts that are still read; the list of the bytes that were read.
 //!
-//! A network device, a vsock device or a balloon begins with these:
+//! A network device, a vsock device, a balloon or an entropy device begins with these:
 //!
 //! - its rounds: the guest's pages (4); the number of its port (1); what is due (1: 0 a look, 1 the question to its host, which
 //!   a balloon never asks, 2 a queue, and behind a 2 the queue's number (1), 3 a wait); the flag that the round gave a chain
@@ -100,11 +100,19 @@
 //!   what is read; 2 a page is zeroed: the guest's pages (4), how many writes of 64 bytes are left (4), where the next one goes
 //!   (8), and what is read behind them; 3 statistics are read: what they told so far, as above, and what is read. What is read:
 //!   the list of the parts that are left; the list of the bytes that are held.
+//!
+//! And an entropy device:
+//!
+//! - its limits, as a block device has them;
+//! - what it is at in a chain, a byte and what follows it: 0 nothing; 1 a word is asked for: with how many bytes the chain is filled,
+//!   at most 4,096, the number of the word (4 each), and the list of the parts that are left; 2 it is written: the same, and the list
+//!   of its bytes that are left, at most 8.
 #![tactic(auto)]
 
 mod balloon;
 mod block;
 mod device;
+mod entropy;
 mod file;
 mod form;
 mod law;

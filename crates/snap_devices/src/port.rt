@@ -18,6 +18,7 @@ fn kind_code(kind: DeviceKind) -> u8
         DeviceKind::Block => 1,
         DeviceKind::Balloon => 2,
         DeviceKind::Vsock => 3,
+        DeviceKind::Entropy => 4,
     }
 }
 
@@ -36,6 +37,7 @@ impl Stored for Saved<DeviceKind> {
             1 => DeviceKind::Block,
             2 => DeviceKind::Balloon,
             3 => DeviceKind::Vsock,
+            4 => DeviceKind::Entropy,
             _ => return Err(ReadError::Bad),
         };
         Ok(Saved { value })

@@ -1,23 +1,29 @@
 -- What a copy keeps of a board, of reservations and of the rest, in the fields of a file.
-use Rattle.std.proofs.Common.{◌≡◌, ◌≤◌, ◌<◌, ◌^◌, ℕ, Bool, true, false, if◌then◌else◌, arith, List, [], ◌∷◌, length}
+use Rattle.std.proofs.Common.{◌≡◌, ◌≤◌, ◌<◌, ◌^◌, ℕ, Bool, true, false, if◌then◌else◌, arith, refl, List, [], ◌∷◌, ◌++◌, length, length-append, Option, Some, None}
 use Rattle.std.specs.List.{All, list_all, list_any}
 use Rattle.std.proofs.lemmas.List.Elements.{All-cons, All-nil}
 use Rattle.std.proofs.lemmas.Bool.{and_parts, ltb-true}
+use Rattle.api_calls.specs.declared.entropy.Entropy.{Entropy}
+use Rattle.api_calls.specs.Form.{holds}
 use Rattle.board_table.specs.Board.{Board}
 use Rattle.board_table.specs.Kept.{AreLines, IsKept, IsSmallState, IsWord}
 use Rattle.guest_memory.specs.Ram.{page_size}
 use Rattle.port_table.specs.declared.state.PortState.{PortState}
 use Rattle.file_format.specs.Kinds.{flag, number16, number64}
+use Rattle.file_format.specs.Whole.{counted}
 use Rattle.file_format.proofs.Fitting.{every, fits16, fits32, fits64, fits_bytes, fits_flag, fits_list}
 use Rattle.snap_harts.specs.HartStates.{hart_state}
 use Rattle.snap_harts.proofs.Fits.{state_fits}
 use Rattle.snap_state.specs.declared.copy.Reservation.{Reservation}
+use Rattle.snap_state.specs.declared.copy.Section.TheVariants as sections
 use Rattle.snap_state.specs.Boards.{board}
-use Rattle.snap_state.specs.Copies.{reservation, section}
+use Rattle.snap_state.specs.Copies.{entropy, reservation, section}
 use Rattle.snap_state.specs.Copy.{saved_board}
-use Rattle.snap_state.specs.Sections.{is_offering, offering, offering_bytes, offering_tag, sections_of}
-use Rattle.snap_state.specs.Valid.{is_reserved}
+use Rattle.snap_state.specs.Sections.{configured, is_offering, offering_bytes, sections_of}
+use Rattle.snap_state.specs.Valid.{is_entropy, is_reserved}
+use Rattle.snap_state.proofs.Longest.{entropy_within}
 use Rattle.snap_state.proofs.Sectioned.{offering_short}
+use Rattle.snap_state.proofs.Texts.{limiters_fit}
 
 pub board_fits : (harts : ℕ) (b : Board) → harts ≤ 32 → IsKept harts b → board.Fits (saved_board b)
 unfolding board
@@ -63,13 +69,35 @@ reservations_fit pages harts (r ∷ rs) some few are =
 
 -- ---- sections
 
-offering_fits : (ports : List PortState) → length ports < 2 ^ 31 → section.Fits (offering ports)
+offering_fits : (ports : List PortState) → length ports < 2 ^ 31 → section.Fits (sections.Offering (offering_bytes ports))
 unfolding section
-offering_fits ports few = (fits32 offering_tag (omega arith), fits_bytes (offering_bytes ports) (omega (arith, few, offering_short ports)))
+offering_fits ports few =
+    (fits32 1 (omega arith), (refl, fits_bytes (offering_bytes ports) (omega (arith, few, offering_short ports))))
 
-pub sections_fit : (ports : List PortState) → length ports < 2 ^ 31 → All section.Fits (sections_of ports)
-sections_fit ports few = by (list_any is_offering ports)
+limits_fit : (e : Entropy) → is_entropy e ≡ true → entropy.Fits e
+unfolding entropy
+limits_fit e is = limiters_fit e.rate_limiter is
+
+counted_fits : (e : Entropy) → entropy.Fits e → (counted entropy).Fits e
+unfolding counted
+counted_fits e fits =
+    let bytes : List ℕ = entropy.bytes e in
+    let short = entropy_within.at (bytes ++ []) e [] (entropy.again e [] fits) in
+    (fits, fits_bytes bytes (omega (arith, short, length-append {A = ℕ} bytes [])))
+
+entropy_fits : (e : Entropy) → is_entropy e ≡ true → section.Fits (sections.Entropy e)
+unfolding section
+entropy_fits e is = (fits32 3 (omega arith), (refl, counted_fits e (limits_fit e is)))
+
+configured_fit : (e : Option Entropy) → holds is_entropy e ≡ true → All section.Fits (configured e)
+configured_fit None is = All-nil section.Fits
+configured_fit (Some e) is = All-cons section.Fits (sections.Entropy e) [] (entropy_fits e is) (All-nil section.Fits)
+
+pub sections_fit : (ports : List PortState) (e : Option Entropy) → length ports < 2 ^ 31 → holds is_entropy e ≡ true
+    → All section.Fits (sections_of ports e)
+sections_fit ports e few is = by (list_any is_offering ports)
   where
-    by : (there : Bool) → All section.Fits (if there then offering ports ∷ [] else [])
-    by true = All-cons section.Fits (offering ports) [] (offering_fits ports few) (All-nil section.Fits)
-    by false = All-nil section.Fits
+    by : (there : Bool) → All section.Fits ((if there then sections.Offering (offering_bytes ports) ∷ [] else []) ++ configured e)
+    by true =
+        All-cons section.Fits (sections.Offering (offering_bytes ports)) (configured e) (offering_fits ports few) (configured_fit e is)
+    by false = configured_fit e is

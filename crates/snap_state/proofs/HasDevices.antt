@@ -3,43 +3,36 @@ use Rattle.std.proofs.Common.{◌≡◌, ◌<◌, ◌≤◌, ◌+◌, ◌-◌, �
 use Rattle.std.specs.Prelude.{is_none}
 use Rattle.std.proofs.lemmas.Bool.{and_parts}
 use Rattle.port_table.specs.declared.kind.DeviceKind.{DeviceKind}
-use Rattle.port_table.specs.declared.kind.DeviceKind.TheVariants.{Net, Block, Balloon, Vsock}
+use Rattle.port_table.specs.declared.kind.DeviceKind.TheVariants.{Net, Block, Balloon, Vsock, Entropy}
 use Rattle.api_calls.specs.declared.balloon.Balloon as configured
 use Rattle.api_calls.specs.declared.call.Drive.{Drive}
+use Rattle.api_calls.specs.declared.entropy.Entropy as entropies
 use Rattle.api_calls.specs.declared.interface.Interface.{Interface}
 use Rattle.api_calls.specs.declared.vsock.Vsock as vsock
-use Rattle.vm_config.specs.Devices.{Configured, balloon_devices, count_in, devices_in, of_drive, of_interface, vsock_count, vsock_devices}
+use Rattle.vm_config.specs.Devices.{Configured, balloon_count, balloon_devices, count_in, devices_in, entropy_devices, lone_devices, of_drive, of_interface, vsock_count, vsock_devices}
 use Rattle.vm_config.specs.Drives.{in_order}
 use Rattle.vm_config.proofs.DeviceLemmas.{counted_in, length-ordered}
 use Rattle.std.proofs.lemmas.List.{length-map}
 use Rattle.snap_state.specs.declared.copy.StateCopy.{StateCopy}
-use Rattle.snap_state.specs.Valid.{are_devices, are_kinds, has_devices, is_kind, is_kind_due, kind_configured, kind_of, kinds_of, port_kind}
+use Rattle.snap_state.specs.Sections.{entropy_in}
+use Rattle.snap_state.specs.Valid.{are_devices, are_kinds, has_devices, is_kind, is_kind_due, kind_configured, kind_of, kinds_in, port_kind}
 
 -- ---- kinds
 
 kind_is : (due kind : DeviceKind) → is_kind due kind ≡ true → kind ≡ due
 kind_is Net Net is = refl
-kind_is Net Block is = absurd cc
-kind_is Net Balloon is = absurd cc
-kind_is Net Vsock is = absurd cc
-kind_is Block Net is = absurd cc
 kind_is Block Block is = refl
-kind_is Block Balloon is = absurd cc
-kind_is Block Vsock is = absurd cc
-kind_is Balloon Net is = absurd cc
-kind_is Balloon Block is = absurd cc
 kind_is Balloon Balloon is = refl
-kind_is Balloon Vsock is = absurd cc
-kind_is Vsock Net is = absurd cc
-kind_is Vsock Block is = absurd cc
-kind_is Vsock Balloon is = absurd cc
 kind_is Vsock Vsock is = refl
+kind_is Entropy Entropy is = refl
+kind_is due kind is = absurd cc
 
 kind_same : (kind : DeviceKind) → is_kind kind kind ≡ true
 kind_same Net = refl
 kind_same Block = refl
 kind_same Balloon = refl
 kind_same Vsock = refl
+kind_same Entropy = refl
 
 -- what stands at a number, and what stands behind it
 left_none : {A : Type 0} (xs : List A) (n : ℕ) → slice_get xs n ≡ None → drop n xs ≡ []
@@ -118,18 +111,32 @@ vsock_behind : (v : Option vsock.Vsock) (rest : List Configured) (k : ℕ)
 vsock_behind None rest k = let e : 0 + k ≡ k = omega arith in rw e refl
 vsock_behind (Some v) rest k = let e : 1 + k ≡ suc k = omega arith in rw e refl
 
+balloon_front : (b : Option configured.Balloon) (rest : List Configured) (k : ℕ) → k < balloon_count b
+    → slice_get (map kind_configured (balloon_devices b ++ rest)) k ≡ slice_get (map kind_configured (balloon_devices b)) 0
+balloon_front None rest k lt = absurd (omega (arith, lt))
+balloon_front (Some b) rest zero lt = refl
+balloon_front (Some b) rest (suc k) lt = absurd (omega (arith, lt))
+
+balloon_behind : (b : Option configured.Balloon) (rest : List Configured) (k : ℕ)
+    → slice_get (map kind_configured (balloon_devices b ++ rest)) (balloon_count b + k) ≡ slice_get (map kind_configured rest) k
+balloon_behind None rest k = let e : 0 + k ≡ k = omega arith in rw e refl
+balloon_behind (Some b) rest k = let e : 1 + k ≡ suc k = omega arith in rw e refl
+
 module _ (drives : List Drive) (interfaces : List Interface) (one : Option vsock.Vsock) (balloon : Option configured.Balloon)
-    (k : ℕ) where
+    (entropy : Option entropies.Entropy) (k : ℕ) where
   abbrev due : List DeviceKind
-  due = map kind_configured (devices_in drives interfaces one balloon)
+  due = map kind_configured (devices_in drives interfaces one balloon entropy)
 
   abbrev last : List Configured
-  last = vsock_devices one ++ balloon_devices balloon
+  last = lone_devices one balloon entropy
+
+  abbrev behind_vsock : List Configured
+  behind_vsock = balloon_devices balloon ++ entropy_devices entropy
 
   abbrev others : List Configured
   others = map of_interface interfaces ++ last
 
-  pub drive_due : k < length drives → slice_get (map kind_configured (devices_in drives interfaces one balloon)) k ≡ Some Block
+  pub drive_due : k < length drives → slice_get (map kind_configured (devices_in drives interfaces one balloon entropy)) k ≡ Some Block
   drive_due lt =
       let many = length-ordered drives in
       kind_front of_drive Block (λ d. refl) (in_order drives) others k (omega (arith, lt, many))
@@ -142,7 +149,7 @@ module _ (drives : List Drive) (interfaces : List Interface) (one : Option vsock
       ap (slice_get due) at ∙ kind_behind of_drive (in_order drives) others j
 
   pub interface_due : length drives ≤ k → k < length drives + length interfaces
-      → slice_get (map kind_configured (devices_in drives interfaces one balloon)) k ≡ Some Net
+      → slice_get (map kind_configured (devices_in drives interfaces one balloon entropy)) k ≡ Some Net
   interface_due from lt =
       let j : ℕ = k - length drives in
       behind_drives j (omega (arith, from)) ∙ kind_front of_interface Net (λ i. refl) interfaces last j (omega (arith, from, lt))
@@ -153,64 +160,78 @@ module _ (drives : List Drive) (interfaces : List Interface) (one : Option vsock
       behind_drives (length interfaces + j) (omega (arith, is)) ∙ kind_behind of_interface interfaces last j
 
   pub vsock_due : length drives + length interfaces ≤ k → k < length drives + length interfaces + vsock_count one
-      → slice_get (map kind_configured (devices_in drives interfaces one balloon)) k
+      → slice_get (map kind_configured (devices_in drives interfaces one balloon entropy)) k
       ≡ slice_get (map kind_configured (vsock_devices one)) 0
   vsock_due from lt =
       let j : ℕ = k - (length drives + length interfaces) in
-      behind_interfaces j (omega (arith, from)) ∙ vsock_front one (balloon_devices balloon) j (omega (arith, from, lt))
+      behind_interfaces j (omega (arith, from)) ∙ vsock_front one behind_vsock j (omega (arith, from, lt))
 
-  pub balloon_due : k ≡ length drives + length interfaces + vsock_count one
-      → slice_get (map kind_configured (devices_in drives interfaces one balloon)) k
+  -- so many behind the vsock device
+  behind_sockets : (j : ℕ) → k ≡ length drives + length interfaces + vsock_count one + j
+      → slice_get due k ≡ slice_get (map kind_configured behind_vsock) j
+  behind_sockets j is =
+      behind_interfaces (vsock_count one + j) (omega (arith, is)) ∙ vsock_behind one behind_vsock j
+
+  pub balloon_due : length drives + length interfaces + vsock_count one ≤ k
+      → k < length drives + length interfaces + vsock_count one + balloon_count balloon
+      → slice_get (map kind_configured (devices_in drives interfaces one balloon entropy)) k
       ≡ slice_get (map kind_configured (balloon_devices balloon)) 0
-  balloon_due is =
-      behind_interfaces (vsock_count one + 0) (omega (arith, is)) ∙ vsock_behind one (balloon_devices balloon) 0
+  balloon_due from lt =
+      let j : ℕ = k - (length drives + length interfaces + vsock_count one) in
+      behind_sockets j (omega (arith, from)) ∙ balloon_front balloon (entropy_devices entropy) j (omega (arith, from, lt))
 
-  one_balloon : (b : Option configured.Balloon) (j : ℕ) → slice_get (map kind_configured (balloon_devices b)) (suc j) ≡ None
-  one_balloon None j = refl
-  one_balloon (Some b) j = refl
+  pub entropy_due : k ≡ length drives + length interfaces + vsock_count one + balloon_count balloon
+      → slice_get (map kind_configured (devices_in drives interfaces one balloon entropy)) k
+      ≡ slice_get (map kind_configured (entropy_devices entropy)) 0
+  entropy_due is =
+      behind_sockets (balloon_count balloon + 0) (omega (arith, is)) ∙ balloon_behind balloon (entropy_devices entropy) 0
 
-  pub none_due : length drives + length interfaces + vsock_count one < k
-      → slice_get (map kind_configured (devices_in drives interfaces one balloon)) k ≡ None
+  one_entropy : (e : Option entropies.Entropy) (j : ℕ) → slice_get (map kind_configured (entropy_devices e)) (suc j) ≡ None
+  one_entropy None j = refl
+  one_entropy (Some e) j = refl
+
+  pub none_due : length drives + length interfaces + vsock_count one + balloon_count balloon < k
+      → slice_get (map kind_configured (devices_in drives interfaces one balloon entropy)) k ≡ None
   none_due lt =
-      let past : ℕ = k - suc (length drives + length interfaces + vsock_count one) in
-      behind_interfaces (vsock_count one + suc past) (omega (arith, lt))
-      ∙ vsock_behind one (balloon_devices balloon) (suc past) ∙ one_balloon balloon past
+      let past : ℕ = k - suc (length drives + length interfaces + vsock_count one + balloon_count balloon) in
+      behind_sockets (balloon_count balloon + suc past) (omega (arith, lt))
+      ∙ balloon_behind balloon (entropy_devices entropy) (suc past) ∙ one_entropy entropy past
 
 -- ---- a copy
 
 pub record HasDevices (c : StateCopy) : Type 0 where
-  pub ports : map port_kind c.ports ≡ kinds_of c.configuration
-  pub devices : map kind_of c.devices ≡ kinds_of c.configuration
+  pub ports : map port_kind c.ports ≡ kinds_in c
+  pub devices : map kind_of c.devices ≡ kinds_in c
   pub each : are_devices c.pages 0 c.devices ≡ true
 
 pub has_parts : (c : StateCopy) → has_devices c ≡ true → HasDevices c
 has_parts c is =
     let p1 = and_parts _ (are_devices c.pages 0 c.devices) is in
     let p0 =
-    and_parts (are_kinds (kinds_of c.configuration) 0 (map port_kind c.ports))
-    (are_kinds (kinds_of c.configuration) 0 (map kind_of c.devices)) p1.0 in
+    and_parts (are_kinds (kinds_in c) 0 (map port_kind c.ports))
+    (are_kinds (kinds_in c) 0 (map kind_of c.devices)) p1.0 in
     record {
-      ports = kinds_due (kinds_of c.configuration) 0 (map port_kind c.ports) p0.0;
-      devices = kinds_due (kinds_of c.configuration) 0 (map kind_of c.devices) p0.1;
+      ports = kinds_due (kinds_in c) 0 (map port_kind c.ports) p0.0;
+      devices = kinds_due (kinds_in c) 0 (map kind_of c.devices) p0.1;
       each = p1.1;
     }
 
-pub has_kinds : (c : StateCopy) → map port_kind c.ports ≡ kinds_of c.configuration → map kind_of c.devices ≡ kinds_of c.configuration
+pub has_kinds : (c : StateCopy) → map port_kind c.ports ≡ kinds_in c → map kind_of c.devices ≡ kinds_in c
     → are_devices c.pages 0 c.devices ≡ true → has_devices c ≡ true
 has_kinds c kinds same each =
-    let ports = due_kinds (kinds_of c.configuration) 0 (map port_kind c.ports) kinds in
-    let devices = due_kinds (kinds_of c.configuration) 0 (map kind_of c.devices) same in
+    let ports = due_kinds (kinds_in c) 0 (map port_kind c.ports) kinds in
+    let devices = due_kinds (kinds_in c) 0 (map kind_of c.devices) same in
     rw (ports, devices, each) refl
 
 -- ---- how many there are
 
-many_kinds : (c : StateCopy) → length (kinds_of c.configuration) ≡ count_in c.configuration.drives c.configuration.interfaces c.configuration.vsock c.configuration.balloon
+many_kinds : (c : StateCopy) → length (kinds_in c) ≡ count_in c.configuration.drives c.configuration.interfaces c.configuration.vsock c.configuration.balloon (entropy_in c.sections)
 many_kinds c =
-    length-map (devices_in c.configuration.drives c.configuration.interfaces c.configuration.vsock c.configuration.balloon) kind_configured
-    ∙ counted_in c.configuration.drives c.configuration.interfaces c.configuration.vsock c.configuration.balloon
+    length-map (devices_in c.configuration.drives c.configuration.interfaces c.configuration.vsock c.configuration.balloon (entropy_in c.sections)) kind_configured
+    ∙ counted_in c.configuration.drives c.configuration.interfaces c.configuration.vsock c.configuration.balloon (entropy_in c.sections)
 
-pub many_ports : (c : StateCopy) → HasDevices c → length c.ports ≡ count_in c.configuration.drives c.configuration.interfaces c.configuration.vsock c.configuration.balloon
+pub many_ports : (c : StateCopy) → HasDevices c → length c.ports ≡ count_in c.configuration.drives c.configuration.interfaces c.configuration.vsock c.configuration.balloon (entropy_in c.sections)
 many_ports c has = sym (length-map c.ports port_kind) ∙ ap length has.ports ∙ many_kinds c
 
-pub many_devices : (c : StateCopy) → HasDevices c → length c.devices ≡ count_in c.configuration.drives c.configuration.interfaces c.configuration.vsock c.configuration.balloon
+pub many_devices : (c : StateCopy) → HasDevices c → length c.devices ≡ count_in c.configuration.drives c.configuration.interfaces c.configuration.vsock c.configuration.balloon (entropy_in c.sections)
 many_devices c has = sym (length-map c.devices kind_of) ∙ ap length has.devices ∙ many_kinds c

@@ -1,5 +1,5 @@
 -- A state file has at most 2^29 bytes, by the rules of a copy.
-use Rattle.std.proofs.Common.{◌≡◌, ℕ, ◌+◌, ◌*◌, ◌≤◌, ◌<◌, ◌^◌, Bool, true, false, ◌&&◌, ◌||◌, eqb, ltb, leb, if◌then◌else◌, List, [], ◌∷◌, ◌++◌, length, length-append, Option, Some, None, refl, sym, ap, arith, subst, codes}
+use Rattle.std.proofs.Common.{◌≡◌, ℕ, zero, suc, ◌+◌, ◌*◌, ◌≤◌, ◌<◌, ◌^◌, Bool, true, false, ◌&&◌, ◌||◌, eqb, ltb, leb, if◌then◌else◌, List, [], ◌∷◌, ◌++◌, length, length-append, Option, Some, None, refl, sym, ap, arith, subst, codes}
 use Rattle.std.proofs.lemmas.Bool.{and_parts, eqb-true, leb-true, ltb-true}
 use Rattle.std.proofs.lemmas.Option.{option_and_then_some}
 use Rattle.std.proofs.lemmas.Slice.Eq.{bytes_eq-Decides}
@@ -9,6 +9,7 @@ use Rattle.vm_types.specs.declared.identity.Identity.{Identity}
 use Rattle.api_calls.specs.declared.call.CacheType.{CacheType}
 use Rattle.api_calls.specs.declared.call.CacheType.TheVariants.{Unsafe, Writeback}
 use Rattle.api_calls.specs.declared.call.Drive.{Drive}
+use Rattle.api_calls.specs.declared.entropy.Entropy.{Entropy}
 use Rattle.api_calls.specs.declared.interface.Interface.{Interface}
 use Rattle.api_calls.specs.declared.mmds.MmdsConfig.{MmdsConfig}
 use Rattle.metadata_store.specs.declared.version.MetadataVersion.{MetadataVersion}
@@ -21,7 +22,7 @@ use Rattle.vm_config.specs.Devices.{count_in}
 use Rattle.vm_config.specs.Interfaces.{id_of_interface}
 use Rattle.vm_config.specs.Named.{are_apart}
 use Rattle.guest_devices.specs.Moments.{is_timely}
-use Rattle.file_format.specs.Kinds.{fixed, flag, number16, number64, text}
+use Rattle.file_format.specs.Kinds.{fixed, flag, number16, number32, number64, text}
 use Rattle.file_format.specs.Identities.{identity}
 use Rattle.file_format.specs.Ends.{listed}
 use Rattle.file_format.specs.Whole.{counted}
@@ -33,23 +34,24 @@ use Rattle.snap_state.specs.declared.configuration.BootSource.{BootSource}
 use Rattle.snap_state.specs.declared.configuration.Configuration.{Configuration}
 use Rattle.snap_state.specs.declared.copy.Reservation.{Reservation}
 use Rattle.snap_state.specs.declared.copy.Section.{Section}
+use Rattle.snap_state.specs.declared.copy.Section.TheVariants as section
 use Rattle.snap_state.specs.declared.copy.StateCopy.{StateCopy}
 use Rattle.snap_state.specs.Boards.{board}
-use Rattle.snap_state.specs.Configured as configured
+use Rattle.snap_state.specs.Configured as kept
 use Rattle.snap_state.specs.Copies as copies
 use Rattle.snap_state.specs.Drives as drives
 use Rattle.snap_state.specs.Interfaces as interfaces
 use Rattle.snap_state.specs.Limits as limits
 use Rattle.snap_state.specs.Mmds as mmds
-use Rattle.snap_state.specs.Sections.{are_sections, is_offering, offering, sections_of}
+use Rattle.snap_state.specs.Sections.{are_sections, configured, entropy_in, is_offering, offering_bytes, sections_of}
 use Rattle.file_format.specs.declared.version.Version.{Version}
 use Rattle.file_format.specs.declared.version.Version.TheVariants.{One, Two}
 use Rattle.snap_state.specs.Files as state
 use Rattle.snap_harts.specs.Harts.{hart}
 use Rattle.snap_harts.specs.HartStates.{hart_state}
-use Rattle.snap_state.specs.Valid.{are_drives, are_interfaces, are_paths, has_devices, has_machine, has_room, is_balloon, is_before, is_board, is_drive, is_interface, is_machine, is_mmds, is_reserved, is_rising, is_source, is_valid, is_vsock, rises_from}
+use Rattle.snap_state.specs.Valid.{are_drives, are_interfaces, are_paths, has_devices, has_machine, has_room, is_balloon, is_before, is_board, is_drive, is_entropy, is_interface, is_machine, is_mmds, is_reserved, is_rising, is_source, is_valid, is_vsock, rises_from}
 use Rattle.snap_state.proofs.HasDevices.{has_parts, many_devices, many_ports}
-use Rattle.snap_state.proofs.Sectioned.{offering_short, section_most, sections_known}
+use Rattle.snap_state.proofs.Sectioned.{offering_short, section_most, sections_known, tagged_most}
 use Rattle.snap_state.proofs.Texts.{address_short, args_short, id_short, ids_few, mmds_parts, path_short}
 use Rattle.snap_state.proofs.Sizes.{device_within, hart_state_within, hart_within, port_within}
 use Rattle.file_format.proofs.Within.{Within, any_within, within16, within32, within64, flag_within, zeros_within, constant_within, just_within, pair_within, made_within, passing_within, optional_most, optional_within, total, total-pass, list_within, each_within, counted_within, listed_within, bytes_within, text_within}
@@ -59,8 +61,8 @@ use Rattle.file_format.proofs.Within.{Within, any_within, within16, within32, wi
 abbrev source_most : BootSource → ℕ
 source_most b = (4 + length b.kernel_image_path) + (optional_most (λ path. 4 + length path) b.initrd_path + (4 + length b.boot_args))
 
-source_within : Within configured.boot_source.reads source_most
-unfolding configured.boot_source
+source_within : Within kept.boot_source.reads source_most
+unfolding kept.boot_source
 source_within = made_within _ source_most (λ a. omega arith) (pair_within text_within (pair_within (optional_within text text_within) text_within))
 
 cache_takes : (name : List ℕ) (first second : Bool) (left : List ℕ) (v : CacheType) (rest : List ℕ)
@@ -140,8 +142,8 @@ mmds_within =
 abbrev vsock_most : Vsock → ℕ
 vsock_most v = 8 + (4 + length v.uds_path)
 
-vsock_within : Within configured.vsock.reads vsock_most
-unfolding configured.vsock
+vsock_within : Within kept.vsock.reads vsock_most
+unfolding kept.vsock
 vsock_within = made_within _ vsock_most (λ a. omega arith) (pair_within within64 text_within)
 
 abbrev configuration_most : Configuration → ℕ
@@ -155,19 +157,19 @@ fixed_within : (expected : List ℕ) → Within (fixed expected).reads (λ _. le
 unfolding fixed
 fixed_within expected = constant_within expected _ (length expected) (omega arith)
 
-balloon_within : Within configured.balloon.reads (λ _. 17)
-unfolding configured.balloon
+balloon_within : Within kept.balloon.reads (λ _. 17)
+unfolding kept.balloon
 balloon_within = made_within _ (λ _. 17) (λ a. omega arith) (pair_within within64 (pair_within flag_within within64))
 
-configuration_within : Within configured.configuration.reads configuration_most
-unfolding configured.configuration
+configuration_within : Within kept.configuration.reads configuration_most
+unfolding kept.configuration
 configuration_within =
     made_within _ configuration_most (λ a. omega arith)
     (pair_within
     (pair_within (fixed_within (1 ∷ [])) (pair_within source_within (pair_within (list_within drives.drive drive_within)
-    (pair_within (list_within interfaces.interface interface_within) (optional_within configured.vsock vsock_within)))))
+    (pair_within (list_within interfaces.interface interface_within) (optional_within kept.vsock vsock_within)))))
     (pair_within within64 (pair_within within64 (pair_within (zeros_within 1)
-    (pair_within flag_within (pair_within (any_within 17 configured.balloon balloon_within) (optional_within mmds.mmds mmds_within)))))))
+    (pair_within flag_within (pair_within (any_within 17 kept.balloon balloon_within) (optional_within mmds.mmds mmds_within)))))))
 
 -- ---- the copy
 
@@ -202,9 +204,24 @@ copy_most c =
     + ((4 + 328 * length c.harts)
     + ((4 + 153 * length c.ports) + ((4 + 30722 * length c.devices) + ((4 + 12 * length c.reservations) + (4 + total section_most c.sections))))))
 
+pub entropy_within : Within copies.entropy.reads (λ _. 53)
+unfolding copies.entropy
+entropy_within = made_within _ (λ _. 53) (λ a. omega arith) (any_within 52 limits.limiter limiter_within)
+
+tagged_within : (tag : ℕ) → Within (copies.tagged tag).reads tagged_most
+tagged_within zero = record { at = λ given v rest is. absurd cc }
+tagged_within (suc zero) = made_within section.Offering tagged_most (λ a. omega arith) bytes_within
+tagged_within (suc (suc zero)) = record { at = λ given v rest is. absurd cc }
+tagged_within (suc (suc (suc zero))) = made_within section.Entropy tagged_most (λ a. omega arith) (counted_within 53 copies.entropy entropy_within)
+tagged_within (suc (suc (suc (suc n)))) = record { at = λ given v rest is. absurd cc }
+
 section_within : Within copies.section.reads section_most
 unfolding copies.section
-section_within = made_within _ section_most (λ a. omega arith) (pair_within within32 bytes_within)
+section_within = record {
+  at = λ given v rest is.
+      option_and_then_some (λ (x : ℕ × List ℕ). (copies.tagged x.0).reads x.1) (number32.reads given) (v, rest) is
+      (λ x ex ey. omega (arith, within32.at given x.0 x.1 ex, (tagged_within x.0).at x.1 v rest ey));
+}
 
 sections_within : (v : Version) → Within (copies.sections_in v).reads (λ sections. 4 + total section_most sections)
 unfolding copies.sections_in
@@ -339,28 +356,32 @@ machine_small c is =
     let harts = and_parts _ (leb m.vcpu_count 32) least.0 in
     (leb-true _ _ harts.1, omega (arith, eqb-true _ _ both.1, leb-true _ _ most.1))
 
-devices_few : (c : StateCopy) → has_devices c ≡ true → has_room c.configuration.drives c.configuration.interfaces c.configuration.vsock c.configuration.balloon ≡ true
+devices_few : (c : StateCopy) → has_devices c ≡ true → has_room c.configuration.drives c.configuration.interfaces c.configuration.vsock c.configuration.balloon (entropy_in c.sections) ≡ true
     → (length c.ports ≤ 16) × (length c.devices ≤ 16) × (length c.configuration.interfaces ≤ 16)
 devices_few c is room =
     let has = has_parts c is in
-    let few = leb-true (count_in c.configuration.drives c.configuration.interfaces c.configuration.vsock c.configuration.balloon) 16 room in
+    let few = leb-true (count_in c.configuration.drives c.configuration.interfaces c.configuration.vsock c.configuration.balloon (entropy_in c.sections)) 16 room in
     let ports = many_ports c has in
     let devices = many_devices c has in
     (omega (arith, few, ports), omega (arith, few, devices), omega (arith, few))
 
 -- ---- sections
 
-sections_short : (ports : List PortState) → total section_most (sections_of ports) ≤ 12 + length ports
-sections_short ports = by (list_any is_offering ports)
+sections_short : (ports : List PortState) (e : Option Entropy) → total section_most (sections_of ports e) ≤ 73 + length ports
+sections_short ports e = by (list_any is_offering ports) e
   where
-    by : (there : Bool) → total section_most (if there then offering ports ∷ [] else []) ≤ 12 + length ports
-    by true = omega (arith, offering_short ports)
-    by false = omega arith
+    by : (there : Bool) (o : Option Entropy)
+        → total section_most ((if there then section.Offering (offering_bytes ports) ∷ [] else []) ++ configured o) ≤ 73 + length ports
+    by true None = omega (arith, offering_short ports)
+    by true (Some x) = omega (arith, offering_short ports)
+    by false None = omega arith
+    by false (Some x) = omega arith
 
 known_short : (ports : List PortState) (sections : List Section) → are_sections ports sections ≡ true
-    → total section_most sections ≤ 12 + length ports
+    → total section_most sections ≤ 73 + length ports
 known_short ports sections is =
-    subst (λ (s : List Section). total section_most s ≤ 12 + length ports) (sym (sections_known ports sections is)) (sections_short ports)
+    subst (λ (s : List Section). total section_most s ≤ 73 + length ports) (sym (sections_known ports sections is))
+    (sections_short ports (entropy_in sections))
 
 -- ---- all of it
 
@@ -368,7 +389,8 @@ copy_short : (c : StateCopy) → is_valid c ≡ true → copy_most c ≤ 5368707
 unfolding is_valid
 copy_short c is =
     let harts_there = c.configuration.machine.vcpu_count in
-    let timely = and_parts _ (list_all (is_timely c.guest_time) c.devices) is in
+    let taken = and_parts _ (holds is_entropy (entropy_in c.sections)) is in
+    let timely = and_parts _ (list_all (is_timely c.guest_time) c.devices) taken.0 in
     let known = and_parts _ (are_sections c.ports c.sections) timely.0 in
     let rising = and_parts _ (is_rising c.reservations) known.0 in
     let reserved = and_parts _ (list_all (is_reserved c.pages harts_there) c.reservations) rising.0 in
@@ -376,7 +398,7 @@ copy_short c is =
     let harts = and_parts _ _ devices.0 in
     let count = and_parts _ (eqb (length c.harts) harts_there) harts.0 in
     let boards = and_parts _ (is_board harts_there c.board) count.0 in
-    let room = and_parts _ (has_room c.configuration.drives c.configuration.interfaces c.configuration.vsock c.configuration.balloon) boards.0 in
+    let room = and_parts _ (has_room c.configuration.drives c.configuration.interfaces c.configuration.vsock c.configuration.balloon (entropy_in c.sections)) boards.0 in
     let balloons = and_parts _ (holds (is_balloon c.configuration.machine.mem_size_mib) c.configuration.balloon) room.0 in
     let machine = and_parts _ (has_machine c c.configuration.machine) balloons.0 in
     let given = and_parts _ (holds (is_mmds c.configuration.interfaces) c.configuration.mmds) machine.0 in

@@ -11,9 +11,9 @@ use Rattle.guest_devices.specs.declared.device.Device.{Device}
 use Rattle.guest_devices.specs.Kept.{device_pages, device_port, is_kept}
 use Rattle.guest_devices.specs.Moments.{is_timely}
 use Rattle.snap_state.specs.declared.copy.StateCopy.{StateCopy}
-use Rattle.snap_state.specs.Sections.{are_sections}
+use Rattle.snap_state.specs.Sections.{are_sections, entropy_in}
 use Rattle.snap_state.proofs.HasDevices.{has_parts, many_devices, many_ports}
-use Rattle.snap_state.specs.Valid.{are_devices, are_drives, are_interfaces, has_devices, has_machine, has_room, is_balloon, is_board, is_device, is_hart, is_machine, is_mmds, is_reserved, is_rising, is_source, is_valid, is_vsock}
+use Rattle.snap_state.specs.Valid.{are_devices, are_drives, are_interfaces, has_devices, has_machine, has_room, is_balloon, is_board, is_device, is_entropy, is_hart, is_machine, is_mmds, is_reserved, is_rising, is_source, is_valid, is_vsock}
 
 pub record Rules (c : StateCopy) : Type 0 where
   pub source : is_source c.configuration.boot_source ≡ true
@@ -23,7 +23,7 @@ pub record Rules (c : StateCopy) : Type 0 where
   pub mmds : holds (is_mmds c.configuration.interfaces) c.configuration.mmds ≡ true
   pub machine : has_machine c c.configuration.machine ≡ true
   pub balloon : holds (is_balloon c.configuration.machine.mem_size_mib) c.configuration.balloon ≡ true
-  pub room : has_room c.configuration.drives c.configuration.interfaces c.configuration.vsock c.configuration.balloon ≡ true
+  pub room : has_room c.configuration.drives c.configuration.interfaces c.configuration.vsock c.configuration.balloon (entropy_in c.sections) ≡ true
   pub board : is_board c.configuration.machine.vcpu_count c.board ≡ true
   pub many : (length c.harts == c.configuration.machine.vcpu_count) ≡ true
   pub harts : list_all (is_hart c.pages) c.harts ≡ true
@@ -32,12 +32,14 @@ pub record Rules (c : StateCopy) : Type 0 where
   pub rising : is_rising c.reservations ≡ true
   pub sections : are_sections c.ports c.sections ≡ true
   pub timely : list_all (is_timely c.guest_time) c.devices ≡ true
+  pub entropy : holds is_entropy (entropy_in c.sections) ≡ true
 
 pub rules_of : (c : StateCopy) → is_valid c ≡ true → Rules c
 unfolding is_valid
 rules_of c valid =
     let m = c.configuration.machine in
-    let p15 = and_parts _ (list_all (is_timely c.guest_time) c.devices) valid in
+    let p16 = and_parts _ (holds is_entropy (entropy_in c.sections)) valid in
+    let p15 = and_parts _ (list_all (is_timely c.guest_time) c.devices) p16.0 in
     let p14 = and_parts _ (are_sections c.ports c.sections) p15.0 in
     let p13 = and_parts _ (is_rising c.reservations) p14.0 in
     let p12 = and_parts _ (list_all (is_reserved c.pages m.vcpu_count) c.reservations) p13.0 in
@@ -46,7 +48,7 @@ rules_of c valid =
     let p9 = and_parts _ (length c.harts == m.vcpu_count) p10.0 in
     let p8 = and_parts _ (is_board m.vcpu_count c.board) p9.0 in
     let p7 =
-    and_parts _ (has_room c.configuration.drives c.configuration.interfaces c.configuration.vsock c.configuration.balloon) p8.0 in
+    and_parts _ (has_room c.configuration.drives c.configuration.interfaces c.configuration.vsock c.configuration.balloon (entropy_in c.sections)) p8.0 in
     let p6 = and_parts _ (holds (is_balloon m.mem_size_mib) c.configuration.balloon) p7.0 in
     let p5 = and_parts _ (has_machine c m) p6.0 in
     let p4 = and_parts _ (holds (is_mmds c.configuration.interfaces) c.configuration.mmds) p5.0 in
@@ -70,6 +72,7 @@ rules_of c valid =
       rising = p13.1;
       sections = p14.1;
       timely = p15.1;
+      entropy = p16.1;
     }
 
 -- and they are all
@@ -93,6 +96,7 @@ rules_hold c r =
       r.rising,
       r.sections,
       r.timely,
+      r.entropy,
     )
     refl
 
@@ -118,9 +122,9 @@ few_pages c r =
 -- ---- ports and devices
 
 pub record Attached (c : StateCopy) : Type 0 where
-  pub ports : length c.ports ≡ count_in c.configuration.drives c.configuration.interfaces c.configuration.vsock c.configuration.balloon
-  pub devices : length c.devices ≡ count_in c.configuration.drives c.configuration.interfaces c.configuration.vsock c.configuration.balloon
-  pub few : count_in c.configuration.drives c.configuration.interfaces c.configuration.vsock c.configuration.balloon ≤ most_ports
+  pub ports : length c.ports ≡ count_in c.configuration.drives c.configuration.interfaces c.configuration.vsock c.configuration.balloon (entropy_in c.sections)
+  pub devices : length c.devices ≡ count_in c.configuration.drives c.configuration.interfaces c.configuration.vsock c.configuration.balloon (entropy_in c.sections)
+  pub few : count_in c.configuration.drives c.configuration.interfaces c.configuration.vsock c.configuration.balloon (entropy_in c.sections) ≤ most_ports
   pub each : are_devices c.pages 0 c.devices ≡ true
 
 pub attached : (c : StateCopy) → Rules c → Attached c
@@ -129,7 +133,7 @@ attached c r =
     record {
       ports = many_ports c has;
       devices = many_devices c has;
-      few = leb-true (count_in c.configuration.drives c.configuration.interfaces c.configuration.vsock c.configuration.balloon) most_ports r.room;
+      few = leb-true (count_in c.configuration.drives c.configuration.interfaces c.configuration.vsock c.configuration.balloon (entropy_in c.sections)) most_ports r.room;
       each = has.each;
     }
 

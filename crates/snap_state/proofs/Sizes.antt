@@ -11,6 +11,7 @@ use Rattle.queue_device.specs.declared.lanes.Which.{Which}
 use Rattle.net_device.specs.Frames.{is_headed}
 use Rattle.snap_devices.specs.declared.file.FileDue.{FileDue}
 use Rattle.snap_devices.specs.Balloons as balloons
+use Rattle.snap_devices.specs.Entropies as entropies
 use Rattle.snap_devices.specs.Limits as limits
 use Rattle.snap_devices.specs.Marks as marks
 use Rattle.snap_devices.specs.Nets as nets
@@ -467,6 +468,32 @@ vsock_within =
     (made_within _ (λ _. 27634) (λ a. omega arith)
     (pair_within rounds_within (pair_within device_place_within (pair_within vsock_data_within vsock_stage_within))))
 
+-- ---- an entropy device
+
+entropy_stages_within : (code : ℕ) → Within (entropies.stages code).reads (λ _. 3472)
+entropy_stages_within zero = just_within _ 3472
+entropy_stages_within (suc zero) = made_within _ _ (λ a. omega arith) (pair_within within32 (pair_within within32 parts_within))
+entropy_stages_within (suc (suc zero)) =
+    made_within _ _ (λ a. omega arith) (pair_within within32 (pair_within within32 (pair_within parts_within held_within)))
+entropy_stages_within (suc (suc (suc n))) = nothing_within 3472
+
+entropy_stage_within : Within entropies.stage.reads (λ _. 3473)
+unfolding entropies.stage
+entropy_stage_within = then_within byte_within entropy_stages_within
+
+entropy_kind_within : Within entropies.kind.reads (λ _. 3571)
+unfolding entropies.kind entropies.kind_fields
+entropy_kind_within =
+    passing_within _ (λ _. 3571) (λ v is. omega arith)
+    (made_within _ (λ _. 3571) (λ a. omega arith) (pair_within gate_within entropy_stage_within))
+
+entropy_within : Within entropies.entropy.reads (λ _. 27623)
+unfolding entropies.entropy entropies.entropy_fields
+entropy_within =
+    passing_within _ (λ _. 27623) (λ v is. omega arith)
+    (made_within _ (λ _. 27623) (λ a. omega arith)
+    (pair_within rounds_within (pair_within device_place_within entropy_kind_within)))
+
 -- ---- a device of any kind
 
 devices_within : (code : ℕ) → WithinList (devices.devices code).reads 30717
@@ -478,7 +505,9 @@ devices_within (suc (suc zero)) =
     standing_list_within _ 30717 (wider_within 27707 30717 (omega arith) (whole_within balloons.balloon 27707 balloon_within))
 devices_within (suc (suc (suc zero))) =
     standing_list_within _ 30717 (wider_within 27634 30717 (omega arith) (whole_within vsocks.vsock 27634 vsock_within))
-devices_within (suc (suc (suc (suc n)))) = no_list_within 30717
+devices_within (suc (suc (suc (suc zero)))) =
+    standing_list_within _ 30717 (wider_within 27623 30717 (omega arith) (whole_within entropies.entropy 27623 entropy_within))
+devices_within (suc (suc (suc (suc (suc n))))) = no_list_within 30717
 
 pub device_within : WithinList devices.device.reads 30718
 unfolding devices.device
@@ -491,7 +520,8 @@ kinds_within zero = just_within _ 0
 kinds_within (suc zero) = just_within _ 0
 kinds_within (suc (suc zero)) = just_within _ 0
 kinds_within (suc (suc (suc zero))) = just_within _ 0
-kinds_within (suc (suc (suc (suc n)))) = nothing_within 0
+kinds_within (suc (suc (suc (suc zero)))) = just_within _ 0
+kinds_within (suc (suc (suc (suc (suc n))))) = nothing_within 0
 
 kind_within : Within ports.kind.reads (λ _. 1)
 unfolding ports.kind

@@ -117,7 +117,7 @@ limiter_fits l is =
     let p = and_parts (holds is_bucket l.bandwidth) (holds is_bucket l.ops) is in
     (buckets_fit l.bandwidth p.0, buckets_fit l.ops p.1)
 
-limiters_fit : (o : Option Limiter) → holds is_limiter o ≡ true → (optional limiter).Fits o
+pub limiters_fit : (o : Option Limiter) → holds is_limiter o ≡ true → (optional limiter).Fits o
 limiters_fit None is = fits_optional limiter None tt
 limiters_fit (Some l) is = fits_optional limiter (Some l) (limiter_fits l is)
 

@@ -1,12 +1,17 @@
--- What stands in the sections of a state file. Tag 1: which devices offer indirect descriptors and the event index.
-use Rattle.std.specs.Prelude.{ℕ, ◌==◌, Bool, false, ◌&&◌, not, if◌then◌else◌, List, [], ◌∷◌, ◌++◌, length, map}
+-- What stands in the sections of a state file. Tag 1: which devices offer indirect descriptors and the event index. Tag 3: the entropy
+-- device, as it is configured.
+use Rattle.std.specs.Prelude.{ℕ, Bool, true, false, ◌&&◌, not, if◌then◌else◌, Option, Some, None, List, [], ◌∷◌, ◌++◌, length, map}
 use Rattle.std.specs.Int.{w32, to_le_bytes}
 use Rattle.std.specs.List.{list_any}
 use Rattle.std.specs.Str.{bytes_eq}
+use Rattle.api_calls.specs.declared.entropy.Entropy.{Entropy}
 use Rattle.port_table.specs.declared.state.PortState.{PortState}
 use Rattle.port_table.specs.Ports.{queue_features}
 use Rattle.port_table.specs.Registers.{has_bits}
 use Rattle.snap_state.specs.declared.copy.Section.{Section}
+use Rattle.snap_state.specs.declared.copy.Section.TheVariants as section
+
+-- ---- what is offered
 
 -- the device of this port offers both
 abbrev pub is_offering : PortState → Bool
@@ -19,22 +24,44 @@ offering_byte p = if is_offering p then 1 else 0
 abbrev pub offering_bytes : List PortState → List ℕ
 offering_bytes ports = to_le_bytes w32 (length ports) ++ map offering_byte ports
 
-abbrev pub offering_tag : ℕ
-offering_tag = 1
-
-abbrev pub offering : List PortState → Section
-offering ports = record { tag = offering_tag; bytes = offering_bytes ports }
-
 -- the section is there exactly where a device offers them
-abbrev pub sections_of : List PortState → List Section
-sections_of ports = if list_any is_offering ports then offering ports ∷ [] else []
+abbrev pub offering : List PortState → List Section
+offering ports = if list_any is_offering ports then section.Offering (offering_bytes ports) ∷ [] else []
+
+-- ---- the entropy device
+
+-- the section is there exactly where the device is
+abbrev pub configured : Option Entropy → List Section
+configured None = []
+configured (Some e) = section.Entropy e ∷ []
+
+abbrev pub entropy_by : Section → Option Entropy
+entropy_by (section.Offering bytes) = None
+entropy_by (section.Entropy e) = Some e
+
+abbrev pub this_or : Option Entropy → Option Entropy → Option Entropy
+this_or None found = found
+this_or (Some e) found = Some e
+
+-- as it is configured by these sections, if it is
+abbrev pub entropy_in : List Section → Option Entropy
+entropy_in [] = None
+entropy_in (it ∷ others) = this_or (entropy_by it) (entropy_in others)
+
+-- ---- both, by their tags
+
+abbrev pub sections_of : List PortState → Option Entropy → List Section
+sections_of ports entropy = offering ports ++ configured entropy
 
 -- ---- the same as a test
 
-abbrev pub is_section : Section → Section → Bool
-is_section a b = (a.tag == b.tag) && bytes_eq a.bytes b.bytes
+-- of an entropy device alone, or none
+abbrev pub are_configured : List Section → Bool
+are_configured [] = true
+are_configured (section.Entropy e ∷ []) = true
+are_configured sections = false
 
 abbrev pub are_sections : List PortState → List Section → Bool
-are_sections ports [] = not (list_any is_offering ports)
-are_sections ports (section ∷ []) = list_any is_offering ports && is_section section (offering ports)
-are_sections ports (section ∷ other ∷ others) = false
+are_sections ports (section.Offering bytes ∷ others) =
+    list_any is_offering ports && bytes_eq bytes (offering_bytes ports) && are_configured others
+are_sections ports sections = not (list_any is_offering ports) && are_configured sections

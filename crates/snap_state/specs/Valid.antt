@@ -5,6 +5,7 @@ use Rattle.std.specs.List.{list_all}
 use Rattle.api_calls.specs.declared.balloon.Balloon as balloon
 use Rattle.api_calls.specs.declared.call.Drive.{Drive}
 use Rattle.api_calls.specs.declared.call.MachineConfig.{MachineConfig}
+use Rattle.api_calls.specs.declared.entropy.Entropy as entropy
 use Rattle.api_calls.specs.declared.interface.Interface.{Interface}
 use Rattle.api_calls.specs.declared.mmds.MmdsConfig.{MmdsConfig}
 use Rattle.api_calls.specs.declared.vsock.Vsock as vsock
@@ -12,7 +13,7 @@ use Rattle.api_calls.specs.Addresses.{is_small_mac}
 use Rattle.api_calls.specs.Drives.{is_root}
 use Rattle.api_calls.specs.Form.{are_ids, holds, is_address, is_id, is_path, is_short_text}
 use Rattle.api_calls.specs.Limits.{is_limiter}
-use Rattle.vm_config.specs.Devices.{Configured, count_in, devices_in, of_balloon, of_drive, of_interface, of_vsock}
+use Rattle.vm_config.specs.Devices.{Configured, count_in, devices_in, of_balloon, of_drive, of_entropy, of_interface, of_vsock}
 use Rattle.vm_config.specs.Drives.{id_of_drive}
 use Rattle.vm_config.specs.Interfaces.{has_interface, id_of_interface}
 use Rattle.vm_config.specs.Named.{are_apart}
@@ -21,7 +22,7 @@ use Rattle.guest_memory.specs.Ram.{page_size, is_ram}
 use Rattle.guest_memory.specs.Reserved.{hart_limit}
 use Rattle.port_table.specs.declared.state.PortState.{PortState}
 use Rattle.port_table.specs.declared.kind.DeviceKind.{DeviceKind}
-use Rattle.port_table.specs.declared.kind.DeviceKind.TheVariants.{Net, Block, Balloon, Vsock}
+use Rattle.port_table.specs.declared.kind.DeviceKind.TheVariants.{Net, Block, Balloon, Vsock, Entropy}
 use Rattle.port_table.specs.Window.{most_ports}
 use Rattle.guest_devices.specs.declared.device.Device.{Device}
 use Rattle.guest_devices.specs.Kept.{device_pages, device_port, is_kept, kept_of}
@@ -40,7 +41,7 @@ use Rattle.snap_harts.specs.declared.hart.HartPlace.{HartPlace}
 use Rattle.snap_harts.specs.declared.hart.HartPlace.TheVariants.{Begin, BeginWaiting, Idle, IdleWaiting, Access}
 use Rattle.snap_state.specs.declared.copy.Reservation.{Reservation}
 use Rattle.snap_state.specs.declared.copy.StateCopy.{StateCopy}
-use Rattle.snap_state.specs.Sections.{are_sections}
+use Rattle.snap_state.specs.Sections.{are_sections, entropy_in}
 use Rattle.snap_harts.specs.Copy.{regs_of}
 
 -- ---- the configuration, as the API takes it
@@ -92,9 +93,13 @@ is_mmds interfaces m =
 abbrev pub is_balloon : ℕ → balloon.Balloon → Bool
 is_balloon mib b = nat_le b.amount_mib mib && nat_lt b.stats_polling_interval_s (2 ^ 16)
 
+-- its limits are such as there may be
+abbrev pub is_entropy : entropy.Entropy → Bool
+is_entropy e = holds is_limiter e.rate_limiter
+
 -- there are as many devices as ports at most
-abbrev pub has_room : List Drive → List Interface → Option vsock.Vsock → Option balloon.Balloon → Bool
-has_room drives interfaces v b = nat_le (count_in drives interfaces v b) most_ports
+abbrev pub has_room : List Drive → List Interface → Option vsock.Vsock → Option balloon.Balloon → Option entropy.Entropy → Bool
+has_room drives interfaces v b e = nat_le (count_in drives interfaces v b e) most_ports
 
 -- ---- the board
 
@@ -148,6 +153,7 @@ is_kind Net Net = true
 is_kind Block Block = true
 is_kind Balloon Balloon = true
 is_kind Vsock Vsock = true
+is_kind Entropy Entropy = true
 is_kind kind other = false
 
 abbrev pub is_kind_due : Option DeviceKind → DeviceKind → Bool
@@ -171,9 +177,13 @@ kind_configured (of_drive d) = Block
 kind_configured (of_interface i) = Net
 kind_configured (of_vsock v) = Vsock
 kind_configured (of_balloon b) = Balloon
+kind_configured (of_entropy e) = Entropy
 
-abbrev pub kinds_of : Configuration → List DeviceKind
-kinds_of c = map kind_configured (devices_in c.drives c.interfaces c.vsock c.balloon)
+abbrev pub kinds_of : Configuration → Option entropy.Entropy → List DeviceKind
+kinds_of c e = map kind_configured (devices_in c.drives c.interfaces c.vsock c.balloon e)
+
+abbrev pub kinds_in : StateCopy → List DeviceKind
+kinds_in c = kinds_of c.configuration (entropy_in c.sections)
 
 -- the device at this port of a guest of so many pages, with data that a device keeps
 abbrev pub is_device : ℕ → ℕ → Device → Bool
@@ -214,8 +224,8 @@ has_machine c m =
 -- a port and a device of each kind that is configured
 abbrev pub has_devices : StateCopy → Bool
 has_devices c =
-    are_kinds (kinds_of c.configuration) 0 (map port_kind c.ports)
-    && are_kinds (kinds_of c.configuration) 0 (map kind_of c.devices) && are_devices c.pages 0 c.devices
+    are_kinds (kinds_in c) 0 (map port_kind c.ports) && are_kinds (kinds_in c) 0 (map kind_of c.devices)
+    && are_devices c.pages 0 c.devices
 
 -- all that a copy keeps; no request of a device passed later than guest time
 unfoldable pub is_valid : StateCopy → Bool
@@ -227,7 +237,7 @@ is_valid c =
     && holds (is_mmds c.configuration.interfaces) c.configuration.mmds
     && has_machine c c.configuration.machine
     && holds (is_balloon c.configuration.machine.mem_size_mib) c.configuration.balloon
-    && has_room c.configuration.drives c.configuration.interfaces c.configuration.vsock c.configuration.balloon
+    && has_room c.configuration.drives c.configuration.interfaces c.configuration.vsock c.configuration.balloon (entropy_in c.sections)
     && is_board c.configuration.machine.vcpu_count c.board
     && (length c.harts == c.configuration.machine.vcpu_count)
     && list_all (is_hart c.pages) c.harts
@@ -236,3 +246,4 @@ is_valid c =
     && is_rising c.reservations
     && are_sections c.ports c.sections
     && list_all (is_timely c.guest_time) c.devices
+    && holds is_entropy (entropy_in c.sections)

@@ -3,7 +3,7 @@ ghost use Rattle.std.specs.Prelude.{◌≡◌, count_by, nat_le};
 ghost use Rattle.std.specs.List.{list_all};
 ghost use Rattle.api_calls.specs.Drives.{is_root};
 ghost use Rattle.api_calls.specs.Form.{is_id, is_id_byte};
-ghost use Rattle.vm_config.specs.Devices.{balloon_count, vsock_count};
+ghost use Rattle.vm_config.specs.Devices.{balloon_count, entropy_count, vsock_count};
 ghost use Rattle.vm_config.specs.Interfaces.{has_interface};
 ghost use Rattle.vm_config.specs.Named.{are_apart, has_named};
 ghost use Rattle.guest_devices.specs.Moments.{is_timely};
@@ -13,7 +13,7 @@ use crate::address::holds_mac;
 use crate::filed::Filed;
 use crate::limits::holds_limiter;
 use crate::valid::is_path;
-use api_calls::{Balloon, Drive, Interface, Vsock};
+use api_calls::{Balloon, Drive, Entropy, Interface, Vsock};
 use file_format::Listed;
 use port_table::MOST_DEVICES;
 use snap_devices::SavedDevice;
@@ -121,10 +121,20 @@ pub fn are_there(interfaces: &[Interface], ids: &[TextList]) -> bool
     ids.iter().all(|id| is_used(id.as_str(), interfaces))
 }
 
-fn balloon_count(balloon: &Option<Balloon>) -> usize
+/// How many of them there are.
+pub fn balloon_count(balloon: &Option<Balloon>) -> usize
     ensures { result ≡ balloon_count balloon.now }
 {
     match balloon {
+        None => 0,
+        Some(_) => 1,
+    }
+}
+
+fn entropy_count(entropy: &Option<Entropy>) -> usize
+    ensures { result ≡ entropy_count entropy.now }
+{
+    match entropy {
         None => 0,
         Some(_) => 1,
     }
@@ -146,11 +156,12 @@ pub fn has_room(
     interfaces: &[Interface],
     vsock: &Option<Filed<Vsock>>,
     balloon: &Option<Balloon>,
+    entropy: &Option<Entropy>,
 ) -> bool
-    ensures { result ≡ has_room drives.now interfaces.now vsock.now balloon.now }
+    ensures { result ≡ has_room drives.now interfaces.now vsock.now balloon.now entropy.now }
 {
-    let before = drives.len() as u128 + interfaces.len() as u128;
-    before + vsock_count(vsock) as u128 + balloon_count(balloon) as u128 <= MOST_DEVICES as u128
+    let before = drives.len() as u128 + interfaces.len() as u128 + vsock_count(vsock) as u128;
+    before + balloon_count(balloon) as u128 + entropy_count(entropy) as u128 <= MOST_DEVICES as u128
 }
 
 fn is_device(pages: u32, port: usize, item: &Listed<SavedDevice>) -> bool

@@ -2,11 +2,14 @@
 ghost use Rattle.std.specs.Prelude.{◌≡◌, OnOk};
 ghost use Rattle.file_format.specs.Versions.{current_version};
 ghost use Rattle.file_format.specs.Reading.{Takes};
-ghost use Rattle.snap_state.specs.Copies.{behind_harts, behind_time, reservation, section, sections_in, state_copy};
+ghost use Rattle.snap_state.specs.Copies.{behind_harts, behind_time, reservation, section, sections_in, state_copy, tag_of};
 
 use crate::board::SavedBoard;
 use crate::configuration::Configuration;
 use crate::devices::{read_devices, write_devices};
+use crate::filed::Filed;
+use crate::sections::Section;
+use api_calls::Entropy;
 use file_format::{Counted, Input, Items, Listed, ReadError, Stored, Version};
 use mmio_port::Port;
 use snap_devices::{Saved, SavedDevice};
@@ -21,13 +24,6 @@ pub struct Reservation {
     pub hart: u32,
     /// The granule's offset in the page, in bytes.
     pub offset: u32,
-}
-
-/// What version 2 of the file has behind the copy, under a tag.
-#[derive(Drop)]
-pub struct Section {
-    pub tag: u32,
-    pub bytes: ByteList,
 }
 
 /// What is kept of a machine that is on, besides the bytes of its memory.
@@ -68,19 +64,41 @@ impl Stored for Reservation {
     }
 }
 
-#[tactic(auto, unfolding(crate::specs::Copies::section))]
+fn tag_of(section: &Section) -> u32
+    ensures { result ≡ tag_of section.now }
+{
+    match section {
+        Section::Offering(_) => 1,
+        Section::Entropy(_) => 3,
+    }
+}
+
+#[tactic(auto, unfolding(crate::specs::Copies::section, file_format::specs::Kinds::number32))]
 impl Stored for Section {
     ghost format = { section };
 
     fn write(&self, out: &mut Vec<u8>) -> Result<(), AllocError> {
-        self.tag.write(out)?;
-        self.bytes.write(out)?;
+        tag_of(self).write(out)?;
+        match self {
+            Section::Offering(bytes) => bytes.write(out)?,
+            Section::Entropy(it) => it.write(out)?,
+        }
         Ok(())
     }
 
     fn read(alloc: Global, input: &mut Input) -> Result<Section, ReadError> {
-        let (tag, bytes) = Stored::read(alloc, input)?;
-        Ok(Section { tag, bytes })
+        let section = match u32::read(alloc, input)? {
+            1 => {
+                let bytes: ByteList = Stored::read(alloc, input)?;
+                Section::Offering(bytes)
+            }
+            3 => {
+                let it: Counted<Filed<Entropy>> = Stored::read(alloc, input)?;
+                Section::Entropy(it)
+            }
+            _ => return Err(ReadError::Bad),
+        };
+        Ok(section)
     }
 }
 

@@ -3,9 +3,11 @@ ghost use Rattle.std.specs.Prelude.{◌≡◌, IfOk, map};
 ghost use Rattle.std.specs.Int.{w32, to_le_bytes};
 ghost use Rattle.std.specs.List.{list_any};
 ghost use Rattle.std.specs.Str.{bytes_eq};
-ghost use Rattle.snap_state.specs.Sections.{are_sections, is_offering, is_section, offering, offering_byte, offering_bytes, sections_of};
+ghost use Rattle.snap_state.specs.Sections as spec;
+ghost use Rattle.snap_state.specs.Sections.{are_sections, is_offering, offering_byte, offering_bytes, sections_of};
 
-use crate::copy::Section;
+use crate::filed::Filed;
+use api_calls::Entropy;
 use file_format::{Counted, Items};
 use mmio_port::Port;
 use port_table::Feature;
@@ -13,8 +15,16 @@ use snap_devices::Saved;
 use std::alloc::{AllocError, Global};
 use vm_types::ByteList;
 
-// The tag of the list that tells which devices offer indirect descriptors and the event index.
-const OFFERING_TAG: u32 = 1;
+/// What version 2 of the file has behind the copy, by its tag.
+#[derive(Drop)]
+pub enum Section {
+    /// Tag 1: which devices offer indirect descriptors and the event index.
+    Offering(ByteList),
+    /// Tag 3: the entropy device, as it is configured.
+    Entropy(Counted<Filed<Entropy>>),
+}
+
+// ---- what is offered
 
 fn is_offering(port: &Port) -> bool
     ensures { result ≡ is_offering port.now }
@@ -71,24 +81,6 @@ fn are_offering_bytes(ports: &[Counted<Saved<Port>>], bytes: &[u8]) -> bool
     }
 }
 
-fn is_section(ports: &[Counted<Saved<Port>>], section: &Section) -> bool
-    ensures { result ≡ is_section section.now (offering ports.now) }
-{
-    section.tag == OFFERING_TAG && are_offering_bytes(ports, section.bytes.as_slice())
-}
-
-/// Whether these are the sections of a copy with these ports.
-pub fn are_sections(ports: &[Counted<Saved<Port>>], sections: &[Section]) -> bool
-    ensures { result ≡ are_sections ports.now sections.now }
-{
-    match sections.split_first() {
-        None => !has_offering(ports),
-        Some((section, others)) => {
-            others.is_empty() && has_offering(ports) && is_section(ports, section)
-        }
-    }
-}
-
 // The bytes of the list.
 fn offering_bytes(alloc: Global, ports: &[Counted<Saved<Port>>]) -> Result<ByteList, AllocError>
     ensures { IfOk result (λ bytes. bytes ≡ offering_bytes ports.now) }
@@ -100,20 +92,73 @@ fn offering_bytes(alloc: Global, ports: &[Counted<Saved<Port>>]) -> Result<ByteL
     Ok(bytes)
 }
 
-/// The sections of a copy with these ports.
+// ---- the entropy device
+
+fn entropy_by(section: &Section) -> Option<Entropy>
+    ensures { result ≡ spec.entropy_by section.now }
+{
+    match section {
+        Section::Offering(_) => None,
+        Section::Entropy(it) => Some(it.value.value),
+    }
+}
+
+/// The entropy device that these sections configure, if they do.
+pub fn entropy_in(sections: &[Section]) -> Option<Entropy>
+    ensures { result ≡ spec.entropy_in sections.now }
+{
+    for section in sections {
+        if let Some(entropy) = entropy_by(section) {
+            return Some(entropy);
+        }
+    }
+    None
+}
+
+// Whether these are the section of an entropy device alone, or none.
+fn are_configured(sections: &[Section]) -> bool
+    ensures { result ≡ spec.are_configured sections.now }
+{
+    match sections {
+        [] => true,
+        [Section::Entropy(_)] => true,
+        _ => false,
+    }
+}
+
+// ---- both
+
+/// Whether these are the sections of a copy with these ports.
+pub fn are_sections(ports: &[Counted<Saved<Port>>], sections: &[Section]) -> bool
+    ensures { result ≡ are_sections ports.now sections.now }
+{
+    match sections {
+        [Section::Offering(bytes), others @ ..] => {
+            has_offering(ports)
+                && are_offering_bytes(ports, bytes.as_slice())
+                && are_configured(others)
+        }
+        _ => !has_offering(ports) && are_configured(sections),
+    }
+}
+
+/// The sections of a copy with these ports, and with this entropy device, if there is one.
 pub fn sections_of(
     alloc: Global,
     ports: &[Counted<Saved<Port>>],
+    entropy: Option<Entropy>,
 ) -> Result<Items<Section>, AllocError>
-    ensures { IfOk result (λ sections. sections ≡ sections_of ports.now) }
+    ensures { IfOk result (λ sections. sections ≡ sections_of ports.now entropy) }
 {
     let mut sections = Items::new(alloc);
     if has_offering(ports) {
         let bytes = offering_bytes(alloc, ports)?;
-        sections.push(Section {
-            tag: OFFERING_TAG,
-            bytes,
-        })?;
+        sections.push(Section::Offering(bytes))?;
+    }
+    if let Some(value) = entropy {
+        sections.push(Section::Entropy(Counted {
+            value: Filed { value },
+        }))?;
     }
     Ok(sections)
 }

@@ -13,9 +13,10 @@ use crate::balloon::holds_balloon;
 use crate::board::SavedBoard;
 use crate::configuration::BootSource;
 use crate::copy::{Reservation, StateCopy};
+use crate::entropy::holds_entropy;
 use crate::kinds::{are_device_kinds, are_ports};
 use crate::mmds::holds_mmds;
-use crate::sections::are_sections;
+use crate::sections::{are_sections, entropy_in};
 use crate::vsock::holds_vsock;
 use api_calls::MachineConfig;
 use board_table::RING_SIZE;
@@ -204,8 +205,9 @@ fn has_devices(copy: &StateCopy) -> bool
     ensures { result ≡ has_devices copy.now }
 {
     let devices = copy.devices.as_slice();
-    are_ports(&copy.configuration, copy.ports.as_slice())
-        && are_device_kinds(&copy.configuration, devices)
+    let entropy = entropy_in(copy.sections.as_slice());
+    are_ports(&copy.configuration, &entropy, copy.ports.as_slice())
+        && are_device_kinds(&copy.configuration, &entropy, devices)
         && are_devices(copy.pages, devices)
 }
 
@@ -216,6 +218,7 @@ pub fn is_valid(copy: &StateCopy) -> bool
 {
     let machine = &copy.configuration.machine;
     let harts = machine.vcpu_count;
+    let entropy = entropy_in(copy.sections.as_slice());
     is_source(&copy.configuration.boot_source)
         && are_drives(&copy.configuration.drives.items)
         && are_interfaces(&copy.configuration.interfaces.items)
@@ -231,6 +234,7 @@ pub fn is_valid(copy: &StateCopy) -> bool
             &copy.configuration.interfaces.items,
             &copy.configuration.vsock,
             &copy.configuration.balloon,
+            &entropy,
         )
         && is_board(harts, &copy.board)
         && copy.harts.as_slice().len() as u64 == harts
@@ -240,4 +244,5 @@ pub fn is_valid(copy: &StateCopy) -> bool
         && is_rising(copy.reservations.as_slice())
         && are_sections(copy.ports.as_slice(), copy.sections.as_slice())
         && are_timely(copy.guest_time, copy.devices.as_slice())
+        && holds_entropy(&entropy)
 }

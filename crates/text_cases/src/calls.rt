@@ -54,6 +54,7 @@ fn add_call(call: &ApiCall, text: &mut String) -> Result<(), AllocError> {
         ApiCall::PutBalloon(balloon) => add_balloon(balloon, text),
         ApiCall::PatchBalloon(patch) => add_number(patch.amount_mib, text),
         ApiCall::PatchStatistics(patch) => add_number(patch.stats_polling_interval_s, text),
+        ApiCall::PutEntropy(entropy) => add_limits("limits", &entropy.rate_limiter, text),
         ApiCall::PutMmdsConfig(mmds) => add_mmds(mmds, text),
         _ => Ok(()),
     }
@@ -165,6 +166,7 @@ fn name(call: &ApiCall) -> &'static str {
         ApiCall::PutBalloon(_) => "balloon-put",
         ApiCall::PatchBalloon(_) => "balloon-patch",
         ApiCall::PatchStatistics(_) => "statistics-patch",
+        ApiCall::PutEntropy(_) => "entropy-put",
         ApiCall::PutMmdsConfig(_) => "mmds-put",
         ApiCall::PutMetadata(_) => "metadata-put",
         ApiCall::PatchMetadata(_) => "metadata-patch",

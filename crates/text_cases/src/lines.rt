@@ -49,6 +49,7 @@ fn add_held(item: &Item, text: &mut String) -> Result<(), AllocError> {
                 " ({actor:?}, connection {connection}, {:?})",
                 bytes.as_slice()
             ),
+            HostReply::Word { word } => write!(text, " ({word})"),
             _ => Ok(()),
         },
         _ => Ok(()),

@@ -8,10 +8,11 @@ use Rattle.std.proofs.lemmas.List.Filters.{length-filter_both}
 use Rattle.std.proofs.lemmas.Option.{slice_get-map}
 use Rattle.api_calls.specs.declared.balloon.Balloon.{Balloon}
 use Rattle.api_calls.specs.declared.call.Drive.{Drive}
+use Rattle.api_calls.specs.declared.entropy.Entropy.{Entropy}
 use Rattle.api_calls.specs.declared.interface.Interface.{Interface}
 use Rattle.api_calls.specs.declared.vsock.Vsock.{Vsock}
 use Rattle.vm_config.specs.declared.config.Config.{Config}
-use Rattle.vm_config.specs.Devices.{balloon_count, balloon_device, balloon_devices, count_in, device_count, devices_in, devices_of, interface_device, of_balloon, of_drive, of_interface, vsock_count, vsock_devices}
+use Rattle.vm_config.specs.Devices.{balloon_count, balloon_device, balloon_devices, count_in, device_count, devices_in, devices_of, entropy_count, entropy_devices, interface_device, lone_devices, of_balloon, of_drive, of_interface, vsock_count, vsock_devices}
 use Rattle.vm_config.specs.Drives.{device_of, in_order, is_named, is_root}
 use Rattle.vm_config.specs.Interfaces.{is_interface}
 
@@ -76,24 +77,31 @@ length-balloon : (balloon : Option Balloon) → length (balloon_devices balloon)
 length-balloon None = refl
 length-balloon (Some b) = refl
 
-pub counted_in : (drives : List Drive) (interfaces : List Interface) (vsock : Option Vsock) (balloon : Option Balloon)
-    → length (devices_in drives interfaces vsock balloon) ≡ count_in drives interfaces vsock balloon
-counted_in drives interfaces vsock balloon =
-    let last = vsock_devices vsock ++ balloon_devices balloon in
+length-entropy : (entropy : Option Entropy) → length (entropy_devices entropy) ≡ entropy_count entropy
+length-entropy None = refl
+length-entropy (Some e) = refl
+
+pub counted_in : (drives : List Drive) (interfaces : List Interface) (vsock : Option Vsock) (balloon : Option Balloon) (entropy : Option Entropy)
+    → length (devices_in drives interfaces vsock balloon entropy) ≡ count_in drives interfaces vsock balloon entropy
+counted_in drives interfaces vsock balloon entropy =
+    let end = balloon_devices balloon ++ entropy_devices entropy in
+    let last = vsock_devices vsock ++ end in
     let others = map of_interface interfaces ++ last in
     omega (
       arith,
       length-append (map of_drive (in_order drives)) others,
       length-append (map of_interface interfaces) last,
-      length-append (vsock_devices vsock) (balloon_devices balloon),
+      length-append (vsock_devices vsock) end,
+      length-append (balloon_devices balloon) (entropy_devices entropy),
       length-drives drives,
       length-map interfaces of_interface,
       length-vsock vsock,
       length-balloon balloon,
+      length-entropy entropy,
     )
 
 pub counted : (config : Config) → length (devices_of config) ≡ device_count config
-counted config = counted_in config.drives config.interfaces config.vsock config.balloon
+counted config = counted_in config.drives config.interfaces config.vsock config.balloon config.entropy
 
 -- ---- which are where
 
@@ -113,7 +121,7 @@ pub interface_at : (config : Config) (id : List ℕ) (k : ℕ) → interface_dev
 interface_at config id k is =
     let number = counted_on (length config.drives) k (position (is_interface id) config.interfaces) is in
     let found = at_position (is_interface id) config.interfaces number.0 number.1 in
-    let among = in_front _ (vsock_devices config.vsock ++ balloon_devices config.balloon) number.0 _ (mapped of_interface config.interfaces number.0 found.0 found.1) in
+    let among = in_front _ (lone_devices config.vsock config.balloon config.entropy) number.0 _ (mapped of_interface config.interfaces number.0 found.0 found.1) in
     (found.0, behind _ _ (length config.drives) number.0 k _ (length-drives config.drives) number.2 among, found.2)
 
 balloon_of : (n k : ℕ) (balloon : Option Balloon) → option_map (λ b. n) balloon ≡ Some k → (b : Balloon) × (balloon ≡ Some b) × (n ≡ k)
@@ -130,9 +138,10 @@ balloon_at config k is =
     let interfaces : ℕ = length config.interfaces in
     let vsocks : ℕ = vsock_count config.vsock in
     let there = balloon_of (length config.drives + interfaces + vsocks) k config.balloon is in
-    let last = behind (vsock_devices config.vsock) (balloon_devices config.balloon) vsocks 0 vsocks _ (length-vsock config.vsock)
-    (omega arith) (first_balloon config.balloon there.0 there.1) in
-    let among = behind (map of_interface config.interfaces) (vsock_devices config.vsock ++ balloon_devices config.balloon) interfaces
+    let end = balloon_devices config.balloon ++ entropy_devices config.entropy in
+    let first = in_front (balloon_devices config.balloon) (entropy_devices config.entropy) 0 _ (first_balloon config.balloon there.0 there.1) in
+    let last = behind (vsock_devices config.vsock) end vsocks 0 vsocks _ (length-vsock config.vsock) (omega arith) first in
+    let among = behind (map of_interface config.interfaces) (lone_devices config.vsock config.balloon config.entropy) interfaces
     vsocks (interfaces + vsocks) _ (length-map config.interfaces of_interface) refl last in
     let place : length config.drives + (interfaces + vsocks) ≡ k = let same = there.2 in omega (arith, same) in
     (there.0, there.1, behind _ _ (length config.drives) (interfaces + vsocks) k _ (length-drives config.drives) place among)

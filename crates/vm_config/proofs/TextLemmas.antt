@@ -7,6 +7,7 @@ use Rattle.serde_json.specs.Written.{has_float, items_have_float, members_have_f
 use Rattle.api_calls.specs.declared.balloon.Balloon.{Balloon}
 use Rattle.api_calls.specs.declared.call.BootSource.{BootSource}
 use Rattle.api_calls.specs.declared.call.Drive.{Drive}
+use Rattle.api_calls.specs.declared.entropy.Entropy.{Entropy}
 use Rattle.api_calls.specs.declared.interface.Interface.{Interface}
 use Rattle.api_calls.specs.declared.limiter.BucketConfig.{BucketConfig}
 use Rattle.api_calls.specs.declared.limiter.Limiter.{Limiter}
@@ -69,12 +70,17 @@ pub balloon_whole : (b : Option Balloon) → has_float (texts.balloon b) ≡ fal
 balloon_whole None = refl
 balloon_whole (Some b) = refl
 
+entropy_whole : (e : Option Entropy) → has_float (texts.entropy e) ≡ false
+entropy_whole None = refl
+entropy_whole (Some e) = or_from _ _ (limiter_whole e.rate_limiter) refl
+
 pub config_whole : (c : Config) → has_float (texts.vm_config c) ≡ false
 config_whole c =
     or_from _ _ (balloon_whole c.balloon)
     (or_from _ _ (source_whole c.boot_source)
     (or_from _ _ (drives_whole c.drives)
-    (or_from _ _ (mmds_whole c.mmds) (or_from _ _ (interfaces_whole c.interfaces) (or_from _ _ (vsock_whole c.vsock) refl)))))
+    (or_from _ _ (entropy_whole c.entropy)
+    (or_from _ _ (mmds_whole c.mmds) (or_from _ _ (interfaces_whole c.interfaces) (or_from _ _ (vsock_whole c.vsock) refl))))))
 
 given_whole : (rows : List (List ℕ × Option ℕ)) → members_have_float (given rows) ≡ false
 given_whole [] = refl

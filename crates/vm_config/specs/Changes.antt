@@ -7,7 +7,7 @@ use Rattle.api_calls.specs.declared.call.MachineConfig.{MachineConfig}
 use Rattle.api_calls.specs.declared.call.MachinePatch.{MachinePatch}
 use Rattle.vm_config.specs.declared.config.Config.{Config}
 
--- no boot source, no drive, no interface, no vsock device, no balloon, no metadata for the guest, one hart and 128 MiB
+-- no boot source, no drive, no interface, no vsock device, no balloon, no entropy device, no metadata for the guest, one hart and 128 MiB
 abbrev pub default_config : Config
 default_config = record {
   boot_source = None;
@@ -16,6 +16,7 @@ default_config = record {
   vsock = None;
   machine = record { vcpu_count = 1; mem_size_mib = 128; track_dirty_pages = false };
   balloon = None;
+  entropy = None;
   mmds = None;
   configured = false;
 }

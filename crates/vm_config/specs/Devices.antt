@@ -1,9 +1,10 @@
--- The devices of a machine by their numbers: the root drive, the other drives, the interfaces, the vsock device and the balloon. Drives and
--- interfaces are in the order of their first PUT.
+-- The devices of a machine by their numbers: the root drive, the other drives, the interfaces, the vsock device, the balloon and the
+-- entropy device. Drives and interfaces are in the order of their first PUT.
 use Rattle.std.specs.Prelude.{ℕ, ◌+◌, List, [], ◌∷◌, ◌++◌, length, map, Option, Some, None, option_map}
 use Rattle.std.specs.List.{position}
 use Rattle.api_calls.specs.declared.balloon.Balloon.{Balloon}
 use Rattle.api_calls.specs.declared.call.Drive.{Drive}
+use Rattle.api_calls.specs.declared.entropy.Entropy.{Entropy}
 use Rattle.api_calls.specs.declared.interface.Interface.{Interface}
 use Rattle.api_calls.specs.declared.vsock.Vsock.{Vsock}
 use Rattle.vm_config.specs.declared.config.Config.{Config}
@@ -16,6 +17,7 @@ pub data Configured : Type 0 where
   of_interface : Interface → Configured
   of_vsock : Vsock → Configured
   of_balloon : Balloon → Configured
+  of_entropy : Entropy → Configured
 
 abbrev pub vsock_devices : Option Vsock → List Configured
 vsock_devices None = []
@@ -25,12 +27,20 @@ abbrev pub balloon_devices : Option Balloon → List Configured
 balloon_devices None = []
 balloon_devices (Some b) = of_balloon b ∷ []
 
-abbrev pub devices_in : List Drive → List Interface → Option Vsock → Option Balloon → List Configured
-devices_in drives interfaces vsock balloon =
-    map of_drive (in_order drives) ++ (map of_interface interfaces ++ (vsock_devices vsock ++ balloon_devices balloon))
+abbrev pub entropy_devices : Option Entropy → List Configured
+entropy_devices None = []
+entropy_devices (Some e) = of_entropy e ∷ []
+
+-- those that a machine has one of at most
+abbrev pub lone_devices : Option Vsock → Option Balloon → Option Entropy → List Configured
+lone_devices vsock balloon entropy = vsock_devices vsock ++ (balloon_devices balloon ++ entropy_devices entropy)
+
+abbrev pub devices_in : List Drive → List Interface → Option Vsock → Option Balloon → Option Entropy → List Configured
+devices_in drives interfaces vsock balloon entropy =
+    map of_drive (in_order drives) ++ (map of_interface interfaces ++ lone_devices vsock balloon entropy)
 
 abbrev pub devices_of : Config → List Configured
-devices_of config = devices_in config.drives config.interfaces config.vsock config.balloon
+devices_of config = devices_in config.drives config.interfaces config.vsock config.balloon config.entropy
 
 -- how many there are
 abbrev pub vsock_count : Option Vsock → ℕ
@@ -41,11 +51,16 @@ abbrev pub balloon_count : Option Balloon → ℕ
 balloon_count None = 0
 balloon_count (Some b) = 1
 
-abbrev pub count_in : List Drive → List Interface → Option Vsock → Option Balloon → ℕ
-count_in drives interfaces vsock balloon = length drives + length interfaces + vsock_count vsock + balloon_count balloon
+abbrev pub entropy_count : Option Entropy → ℕ
+entropy_count None = 0
+entropy_count (Some e) = 1
+
+abbrev pub count_in : List Drive → List Interface → Option Vsock → Option Balloon → Option Entropy → ℕ
+count_in drives interfaces vsock balloon entropy =
+    length drives + length interfaces + vsock_count vsock + balloon_count balloon + entropy_count entropy
 
 abbrev pub device_count : Config → ℕ
-device_count config = count_in config.drives config.interfaces config.vsock config.balloon
+device_count config = count_in config.drives config.interfaces config.vsock config.balloon config.entropy
 
 -- the number of the device that the interface of this id is, and that of the balloon's
 abbrev pub interface_device : Config → List ℕ → Option ℕ

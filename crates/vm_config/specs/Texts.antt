@@ -11,6 +11,7 @@ use Rattle.api_calls.specs.Drives.{cache_text}
 use Rattle.api_calls.specs.declared.call.MachineConfig.{MachineConfig}
 use Rattle.api_calls.specs.declared.call.Part.{Part}
 use Rattle.api_calls.specs.declared.call.Part.TheVariants as part
+use Rattle.api_calls.specs.declared.entropy.Entropy.{Entropy}
 use Rattle.api_calls.specs.declared.interface.Interface.{Interface}
 use Rattle.api_calls.specs.declared.limiter.BucketConfig.{BucketConfig}
 use Rattle.api_calls.specs.declared.limiter.Limiter.{Limiter}
@@ -129,6 +130,13 @@ abbrev pub balloon : Option Balloon → Data
 balloon None = null
 balloon (Some b) = given_balloon b
 
+abbrev pub given_entropy : Entropy → Data
+given_entropy e = object (member (codes "rate_limiter") (limiter e.rate_limiter) no_members)
+
+abbrev pub entropy : Option Entropy → Data
+entropy None = null
+entropy (Some e) = given_entropy e
+
 abbrev pub version_text : MetadataVersion → List ℕ
 version_text versions.V1 = codes "V1"
 version_text versions.V2 = codes "V2"
@@ -158,10 +166,11 @@ vm_config c = object (
     member (codes "balloon") (balloon c.balloon)
     (member (codes "boot-source") (boot_source c.boot_source)
     (member (codes "drives") (drives c.drives)
+    (member (codes "entropy") (entropy c.entropy)
     (member (codes "machine-config") (machine c.machine)
     (member (codes "mmds-config") (mmds c.mmds)
     (member (codes "network-interfaces") (interfaces c.interfaces)
-    (member (codes "vsock") (vsock c.vsock) no_members)))))))
+    (member (codes "vsock") (vsock c.vsock) no_members))))))))
 
 -- What there is to tell of a machine: its id, its phase, what is configured, its metadata, and what its balloon tells if it
 -- has one that runs.

@@ -7,8 +7,8 @@ ghost use Rattle.vm_config.specs.Interfaces.{patch_interface, put_interface};
 use crate::drives::Drives;
 use crate::interfaces::Interfaces;
 use api_calls::{
-    Balloon, BootSource, Drive, DrivePatch, Interface, InterfacePatch, MachineConfig, MmdsConfig,
-    Vsock,
+    Balloon, BootSource, Drive, DrivePatch, Entropy, Interface, InterfacePatch, MachineConfig,
+    MmdsConfig, Vsock,
 };
 use std::alloc::{AllocError, Global};
 
@@ -33,6 +33,7 @@ pub struct Config {
     pub vsock: Option<Vsock>,
     pub machine: MachineConfig,
     pub balloon: Option<Balloon>,
+    pub entropy: Option<Entropy>,
     /// How the guest is given metadata.
     pub mmds: Option<MmdsConfig>,
     /// Whether any call that is allowed only before boot was accepted.
@@ -55,6 +56,7 @@ impl Config {
                 track_dirty_pages: false,
             },
             balloon: None,
+            entropy: None,
             mmds: None,
             configured: false,
         }

@@ -5,7 +5,7 @@ ghost use Rattle.vm_config.specs.Devices as devices;
 ghost use Rattle.vm_config.specs.Interfaces.{is_interface};
 
 use crate::config::Config;
-use api_calls::{Balloon, Interface, Vsock};
+use api_calls::{Balloon, Entropy, Interface, Vsock};
 
 fn vsock_count(vsock: &Option<Vsock>) -> usize
     ensures count { result ≡ devices.vsock_count vsock.now }
@@ -26,6 +26,15 @@ fn balloon_count(balloon: &Option<Balloon>) -> usize
     }
 }
 
+fn entropy_count(entropy: &Option<Entropy>) -> usize
+    ensures { result ≡ devices.entropy_count entropy.now }
+{
+    match entropy {
+        Some(_) => 1,
+        None => 0,
+    }
+}
+
 fn place_of(interfaces: &[Interface], id: &str) -> Option<usize>
     ensures { result ≡ position (is_interface id.now) interfaces.now }
 {
@@ -35,7 +44,8 @@ fn place_of(interfaces: &[Interface], id: &str) -> Option<usize>
 }
 
 impl Config {
-    /// How many devices a machine has by what is configured: one for each drive and each interface, the vsock device and the balloon.
+    /// How many devices a machine has by what is configured: one for each drive and each interface, the vsock device, the
+    /// balloon and the entropy device.
     pub fn device_count(&self) -> u128
         ensures { result ≡ devices.device_count self.now }
     {
@@ -45,6 +55,7 @@ impl Config {
             + interfaces
             + vsock_count(&self.vsock) as u128
             + balloon_count(&self.balloon) as u128
+            + entropy_count(&self.entropy) as u128
     }
 
     /// The number of the device that the interface of this id is.
@@ -55,7 +66,7 @@ impl Config {
         Some(self.drives.as_slice().len() + place)
     }
 
-    // How many devices there are beside the balloon.
+    // How many devices there are before the balloon.
     fn others(&self) -> usize
         ensures { result ≡ length self.now.drives + length self.now.interfaces + devices.vsock_count self.now.vsock }
     {

@@ -5,7 +5,7 @@ ghost use Rattle.vm_config.specs.Texts as texts;
 
 use crate::config::{Config, Phase};
 use crate::statistics::{Statistics, statistics_value};
-use crate::values::{balloon, boot_source, drives, interfaces, machine, mmds, vsock};
+use crate::values::{balloon, boot_source, drives, entropy, interfaces, machine, mmds, vsock};
 use api_calls::Balloon;
 use serde_json::{Value, json};
 use std::alloc::{AllocError, Global};
@@ -63,6 +63,7 @@ pub fn vm_config(alloc: Global, config: &Config) -> Result<Value, AllocError>
     let vsock = vsock(alloc, &config.vsock)?;
     let machine = machine(alloc, &config.machine)?;
     let balloon = balloon(alloc, &config.balloon)?;
+    let entropy = entropy(alloc, &config.entropy)?;
     let mmds = mmds(alloc, &config.mmds)?;
     json!(in alloc; {
         "boot-source": source,
@@ -71,6 +72,7 @@ pub fn vm_config(alloc: Global, config: &Config) -> Result<Value, AllocError>
         "network-interfaces": interfaces,
         "vsock": vsock,
         "balloon": balloon,
+        "entropy": entropy,
         "mmds-config": mmds,
     })
 }

@@ -4,7 +4,8 @@ ghost use Rattle.serde_json.specs.View.{view};
 ghost use Rattle.vm_config.specs.Texts as texts;
 
 use api_calls::{
-    Balloon, BootSource, BucketConfig, Drive, Interface, Limiter, MachineConfig, MmdsConfig, Vsock,
+    Balloon, BootSource, BucketConfig, Drive, Entropy, Interface, Limiter, MachineConfig,
+    MmdsConfig, Vsock,
 };
 use metadata_store::MetadataVersion;
 use serde_json::{Value, json};
@@ -183,6 +184,24 @@ pub fn balloon(alloc: Global, balloon: &Option<Balloon>) -> Result<Value, AllocE
 {
     match balloon {
         Some(balloon) => given_balloon(alloc, balloon),
+        None => Ok(Value::Null),
+    }
+}
+
+fn given_entropy(alloc: Global, entropy: &Entropy) -> Result<Value, AllocError>
+    ensures { IfOk result (λ v. view v ≡ texts.given_entropy entropy.now) }
+{
+    let rate_limiter = limiter(alloc, &entropy.rate_limiter)?;
+    json!(in alloc; {
+        "rate_limiter": rate_limiter,
+    })
+}
+
+pub fn entropy(alloc: Global, entropy: &Option<Entropy>) -> Result<Value, AllocError>
+    ensures { IfOk result (λ v. view v ≡ texts.entropy entropy.now) }
+{
+    match entropy {
+        Some(entropy) => given_entropy(alloc, entropy),
         None => Ok(Value::Null),
     }
 }

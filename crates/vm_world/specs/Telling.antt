@@ -10,3 +10,4 @@ statistics_of (device.Balloon b) = Some b.kind.own.statistics
 statistics_of (device.Block b) = None
 statistics_of (device.Net n) = None
 statistics_of (device.Vsock v) = None
+statistics_of (device.Entropy e) = None

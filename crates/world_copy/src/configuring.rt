@@ -4,7 +4,7 @@ ghost use Rattle.std.specs.Option.{option_map};
 ghost use Rattle.flat_snapshot.specs.Carried.{carried_config};
 ghost use Rattle.flat_snapshot.specs.Copies.{source_of};
 
-use api_calls::{BootSource, MachineConfig, MmdsConfig, Vsock};
+use api_calls::{BootSource, Entropy, MachineConfig, MmdsConfig, Vsock};
 use snap_state::{Configuration, Filed, SavedList, taken};
 use std::alloc::{AllocError, Global};
 use vm_config::{Config, Drives, Interfaces, Named, NamedList};
@@ -114,9 +114,13 @@ pub(crate) fn configuration_of(alloc: Global, config: &Config) -> Result<Configu
     })
 }
 
-/// The configuration of a machine that goes on from a copy with this one, and tracks dirty pages or doesn't.
-pub fn config_of(configuration: Configuration, track_dirty_pages: bool) -> Config
-    ensures { result ≡ carried_config track_dirty_pages configuration }
+/// The configuration of a machine that goes on from a copy with this one and this entropy device, and tracks dirty pages or doesn't.
+pub fn config_of(
+    configuration: Configuration,
+    entropy: Option<Entropy>,
+    track_dirty_pages: bool,
+) -> Config
+    ensures { result ≡ carried_config track_dirty_pages configuration entropy }
 {
     Config {
         boot_source: Some(BootSource {
@@ -133,6 +137,7 @@ pub fn config_of(configuration: Configuration, track_dirty_pages: bool) -> Confi
             track_dirty_pages,
         },
         balloon: configuration.balloon,
+        entropy,
         mmds: taken(configuration.mmds),
         configured: true,
     }

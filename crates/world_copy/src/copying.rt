@@ -94,7 +94,7 @@ fn copy_with(
     let configuration = configuration_of(alloc, config)?;
     let board = board_copy(alloc, world.board())?;
     let ports = ports_kept(alloc, world.ports())?;
-    let sections = sections_of(alloc, ports.as_slice())?;
+    let sections = sections_of(alloc, ports.as_slice(), config.entropy)?;
     let devices = devices_kept(alloc, world.devices())?;
     let reservations = reservations_of(alloc, world.pages())?;
     Ok(StateCopy {

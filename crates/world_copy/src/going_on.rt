@@ -8,19 +8,21 @@ ghost use Rattle.hart_trace.specs.States.{LeadsTo};
 ghost use Rattle.snap_harts.specs.declared.hart.HartPlace.TheVariants.{Access};
 ghost use Rattle.snap_harts.specs.Copy.{hart_of, regs_of};
 ghost use Rattle.snap_state.specs.Copy.{board_at};
+ghost use Rattle.snap_state.specs.Sections.{entropy_in};
 ghost use Rattle.snap_state.specs.Valid.{asks, is_board, is_hart, is_valid};
 ghost use Rattle.flat_snapshot.specs.Carried.{carried_guest, steps_at};
 ghost use Rattle.vm_world.specs.Worlds.{IsWorld};
 ghost use Rattle.world_copy.specs.GoingOn.{GoOn};
 
 use crate::attached::{devices_of, ports_of};
+use api_calls::Entropy;
 use board_table::HartState;
 use guest_pages::PageSet;
 use hart_rv64::Hart;
 use line_board::{Board, HartParts};
 use reservation_copy::reserve;
 use snap_harts::{HartPlace, SavedHart, SavedHartState};
-use snap_state::{Configuration, SavedBoard, StateCopy};
+use snap_state::{Configuration, SavedBoard, StateCopy, entropy_in};
 use std::alloc::{AllocError, Global};
 use vm_world::World;
 
@@ -88,6 +90,7 @@ fn board_of(alloc: Global, harts: u64, now: u64, saved: SavedBoard) -> Result<Bo
 pub struct Carried {
     pub world: World,
     pub configuration: Configuration,
+    pub entropy: Option<Entropy>,
 }
 
 /// The world that goes on from a copy, whose memory has these bytes. Nothing is reserved in the pages yet, and none is
@@ -99,6 +102,7 @@ pub fn world_of(alloc: Global, copy: StateCopy, pages: PageSet) -> Result<Carrie
     requires unmarked { marks_of pages.pages ≡ replicate copy.pages false }
     ensures world { IfOk result (λ it. IsWorld it.world (carried_guest copy (flat_of pages.pages).bytes)) }
     ensures configuration { IfOk result (λ it. it.configuration ≡ copy.configuration) }
+    ensures entropy { IfOk result (λ it. it.entropy ≡ entropy_in copy.sections) }
     ensures whole { length (flat_of pages.pages).bytes ≡ page_size * copy.pages }
 {
     let mut pages = pages;
@@ -106,6 +110,7 @@ pub fn world_of(alloc: Global, copy: StateCopy, pages: PageSet) -> Result<Carrie
     let _size = pages.len();
     let count = copy.configuration.machine.vcpu_count;
     let harts = harts_of(alloc, copy.pages, copy.harts.as_slice())?;
+    let entropy = entropy_in(copy.sections.as_slice());
     let reservations = copy.reservations.as_slice();
     pages.reserve_for(alloc, reservations.len() as u64)?;
     reserve(&mut pages, count, reservations);
@@ -115,5 +120,6 @@ pub fn world_of(alloc: Global, copy: StateCopy, pages: PageSet) -> Result<Carrie
     Ok(Carried {
         world: World::from_parts(pages, board, harts, ports, devices),
         configuration: copy.configuration,
+        entropy,
     })
 }

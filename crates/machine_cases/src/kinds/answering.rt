@@ -1,11 +1,14 @@
-// What answers the acts of a network device or a balloon.
+// What answers the acts of a network device, a balloon or an entropy device.
 use crate::chains::memory::{AVAILABLE, DESCRIPTORS, HEADER, USED, put, read};
 use crate::chains::setting::NOTHING;
 use crate::kinds::laying::{BEHIND, Setting};
 use vm_types::{BoardOp, Op, OutOp, Piece, PortLook, PortOp, QueueShown, Reply};
 
+// The word that is drawn.
+const WORD: u64 = 0x0706_0504_0302_0100;
+
 /// The outside of a device: which queues were kicked, guest time and its step, how many frames its link has and how long each is, and
-/// how many acts there were on the link, of which those from a number on fail.
+/// how many acts there were on it, of which those from a number on fail.
 #[derive(Drop)]
 pub struct Outside {
     kicks: u64,
@@ -103,7 +106,7 @@ fn frame_answered(outside: &mut Outside) -> Reply {
     }
 }
 
-// A link, whose frames have 7 in each byte.
+// A link, whose frames have 7 in each byte, or words whose bytes count up from 0.
 fn link_answered(outside: &mut Outside, act: &OutOp) -> (char, Reply) {
     let is_failing = outside.failing <= outside.link;
     outside.link = outside.link.wrapping_add(1);
@@ -115,6 +118,7 @@ fn link_answered(outside: &mut Outside, act: &OutOp) -> (char, Reply) {
         }
         OutOp::LinkSend { .. } => ('s', Reply::Done),
         OutOp::LinkEnd => ('e', Reply::Done),
+        OutOp::DrawWord => ('o', Reply::Drawn { word: WORD }),
         _ => ('?', Reply::Failed),
     };
     if is_failing {

@@ -1,4 +1,4 @@
-// What a case of a network device or a balloon sets up.
+// What a case of a network device, a balloon or an entropy device sets up.
 use crate::chains::memory::{AVAILABLE, DESCRIPTORS, put};
 use crate::words::{Numbers, numbers_in};
 

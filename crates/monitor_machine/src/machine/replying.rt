@@ -132,7 +132,7 @@ impl LiveMachine {
     }
 
     fn take_drives(&mut self, drives: Drives)
-        requires fit { AreFitting drives self.old.config.interfaces self.old.config.vsock self.old.config.balloon }
+        requires fit { AreFitting drives self.old.config.interfaces self.old.config.vsock self.old.config.balloon self.old.config.entropy }
         requires early { self.old.guest ≡ None }
         ensures { PlanLeaves (Plan.Drives drives) self.old self.new }
     {
@@ -140,7 +140,7 @@ impl LiveMachine {
     }
 
     fn take_interfaces(&mut self, interfaces: Interfaces)
-        requires fit { AreLinked self.old.config.drives interfaces self.old.config.vsock self.old.config.balloon self.old.config.mmds }
+        requires fit { AreLinked self.old.config.drives interfaces self.old.config.vsock self.old.config.balloon self.old.config.entropy self.old.config.mmds }
         requires early { self.old.guest ≡ None }
         ensures { PlanLeaves (Plan.Interfaces interfaces) self.old self.new }
     {

@@ -17,6 +17,7 @@ fn statistics_of(device: &Device) -> Option<Statistics>
         Device::Block(_) => None,
         Device::Net(_) => None,
         Device::Vsock(_) => None,
+        Device::Entropy(_) => None,
     }
 }
 

@@ -8,4 +8,5 @@ returns c = record {
   drive_patch = λ r patch is. (asked_is r (call.PatchDrive patch) is).2;
   interface = λ r interface is. (asked_is r (call.PutInterface interface) is).3;
   interface_patch = λ r patch is. (asked_is r (call.PatchInterface patch) is).1;
+  entropy = λ r entropy is. asked_is r (call.PutEntropy entropy) is;
 }

@@ -12,7 +12,7 @@ returns g c =
     let ran = c.run_serve-exit.ensures in
     let wrote = c.write_last.ensures in
     let with = c.run_serve-exit.new.with in
-    let before : ServeKnown = serve_known_of g.T.Trace.known g.K.Sink.known g.C.Clock.known g.D.Disk.known g.L.Link.known g.V.VsockHost.known g.F.Files.known g.W.Words.known
+    let before : ServeKnown = serve_known_of g.T.Trace.known g.K.Sink.known g.C.Clock.known g.D.Disk.known g.L.Link.known g.V.VsockHost.known g.G.GuestWords.known g.F.Files.known g.W.Words.known
     g.M.Listener.known c.args.sink.now c.args.files.now c.args.with.now in
     let mid : Hosts = hosts (known (g.T.Trace.known with.turns.trace) (g.K.Sink.known c.run_serve-exit.new.sink)
     (host_known g.C.Clock.known g.D.Disk.known g.L.Link.known g.V.VsockHost.known with.turns.host)) (g.F.Files.known c.run_serve-exit.new.files) in

@@ -15,7 +15,7 @@ use Rattle.firecracker_cli.proofs.serving.serve_on.Goals as goal
 
 pub returns-in-Err-clause-so_far : goal.returns-in-Err-clause-so_far
 returns-in-Err-clause-so_far g c = λ tells new.
-    let before : ServeKnown = serve_known_of g.T.Trace.known g.K.Sink.known g.C.Clock.known g.D.Disk.known g.L.Link.known g.V.VsockHost.known g.F.Files.known g.W.Words.known
+    let before : ServeKnown = serve_known_of g.T.Trace.known g.K.Sink.known g.C.Clock.known g.D.Disk.known g.L.Link.known g.V.VsockHost.known g.G.GuestWords.known g.F.Files.known g.W.Words.known
     g.M.Listener.known c.args.sink.now c.args.files.now c.args.with.now in
     let opened : ServeKnown = serve_known (hosts (known (g.T.Trace.known c.open.new.trace) before.hosts.slices.sink before.hosts.slices.host)
     before.hosts.files) before.words (g.M.Listener.known c.open.new.listener) in
@@ -26,7 +26,7 @@ returns-in-Err-clause-so_far g c = λ tells new.
 
 pub returns-in-Err-clause-told : goal.returns-in-Err-clause-told
 returns-in-Err-clause-told g c =
-    let before : ServeKnown = serve_known_of g.T.Trace.known g.K.Sink.known g.C.Clock.known g.D.Disk.known g.L.Link.known g.V.VsockHost.known g.F.Files.known g.W.Words.known
+    let before : ServeKnown = serve_known_of g.T.Trace.known g.K.Sink.known g.C.Clock.known g.D.Disk.known g.L.Link.known g.V.VsockHost.known g.G.GuestWords.known g.F.Files.known g.W.Words.known
     g.M.Listener.known c.args.sink.now c.args.files.now c.args.with.now in
     let opened : ServeKnown = serve_known (hosts (known (g.T.Trace.known c.open.new.trace) before.hosts.slices.sink before.hosts.slices.host)
     before.hosts.files) before.words (g.M.Listener.known c.open.new.listener) in
@@ -34,7 +34,7 @@ returns-in-Err-clause-told g c =
 
 pub returns-in-Err-draw_lineage-clause-so_far : goal.returns-in-Err-draw_lineage-clause-so_far
 returns-in-Err-draw_lineage-clause-so_far g c = λ tells new.
-    let before : ServeKnown = serve_known_of g.T.Trace.known g.K.Sink.known g.C.Clock.known g.D.Disk.known g.L.Link.known g.V.VsockHost.known g.F.Files.known g.W.Words.known
+    let before : ServeKnown = serve_known_of g.T.Trace.known g.K.Sink.known g.C.Clock.known g.D.Disk.known g.L.Link.known g.V.VsockHost.known g.G.GuestWords.known g.F.Files.known g.W.Words.known
     g.M.Listener.known c.args.sink.now c.args.files.now c.args.with.now in
     let drawn : ServeKnown = serve_known (hosts (known (g.T.Trace.known c.draw_lineage.new.trace) before.hosts.slices.sink before.hosts.slices.host)
     before.hosts.files) (g.W.Words.known c.draw_lineage.new.words) (g.M.Listener.known c.open.new.listener) in
@@ -53,7 +53,7 @@ returns-in-Err-draw_lineage-clause-so_far g c = λ tells new.
 
 pub returns-in-Err-draw_lineage-clause-told : goal.returns-in-Err-draw_lineage-clause-told
 returns-in-Err-draw_lineage-clause-told g c =
-    let before : ServeKnown = serve_known_of g.T.Trace.known g.K.Sink.known g.C.Clock.known g.D.Disk.known g.L.Link.known g.V.VsockHost.known g.F.Files.known g.W.Words.known
+    let before : ServeKnown = serve_known_of g.T.Trace.known g.K.Sink.known g.C.Clock.known g.D.Disk.known g.L.Link.known g.V.VsockHost.known g.G.GuestWords.known g.F.Files.known g.W.Words.known
     g.M.Listener.known c.args.sink.now c.args.files.now c.args.with.now in
     let drawn : ServeKnown = serve_known (hosts (known (g.T.Trace.known c.draw_lineage.new.trace) before.hosts.slices.sink before.hosts.slices.host)
     before.hosts.files) (g.W.Words.known c.draw_lineage.new.words) (g.M.Listener.known c.open.new.listener) in
@@ -62,7 +62,7 @@ returns-in-Err-draw_lineage-clause-told g c =
 
 pub returns-clause-so_far : goal.returns-clause-so_far
 returns-clause-so_far g c = λ tells new.
-    let before : ServeKnown = serve_known_of g.T.Trace.known g.K.Sink.known g.C.Clock.known g.D.Disk.known g.L.Link.known g.V.VsockHost.known g.F.Files.known g.W.Words.known
+    let before : ServeKnown = serve_known_of g.T.Trace.known g.K.Sink.known g.C.Clock.known g.D.Disk.known g.L.Link.known g.V.VsockHost.known g.G.GuestWords.known g.F.Files.known g.W.Words.known
     g.M.Listener.known c.args.sink.now c.args.files.now c.args.with.now in
     let opened : ServeKnown = serve_known (hosts (known (g.T.Trace.known c.open.new.trace) before.hosts.slices.sink before.hosts.slices.host)
     before.hosts.files) before.words (g.M.Listener.known c.open.new.listener) in
@@ -104,7 +104,7 @@ returns-clause-so_far g c = λ tells new.
 
 pub returns-clause-told : goal.returns-clause-told
 returns-clause-told g c =
-    let before : ServeKnown = serve_known_of g.T.Trace.known g.K.Sink.known g.C.Clock.known g.D.Disk.known g.L.Link.known g.V.VsockHost.known g.F.Files.known g.W.Words.known
+    let before : ServeKnown = serve_known_of g.T.Trace.known g.K.Sink.known g.C.Clock.known g.D.Disk.known g.L.Link.known g.V.VsockHost.known g.G.GuestWords.known g.F.Files.known g.W.Words.known
     g.M.Listener.known c.args.sink.now c.args.files.now c.args.with.now in
     let opened : ServeKnown = serve_known (hosts (known (g.T.Trace.known c.open.new.trace) before.hosts.slices.sink before.hosts.slices.host)
     before.hosts.files) before.words (g.M.Listener.known c.open.new.listener) in

@@ -6,7 +6,7 @@ use Rattle.firecracker_cli.proofs.top.firecracker_main.Goals as goal
 
 pub returns-clause-serve : goal.returns-clause-serve
 returns-clause-serve g c = rw c.in-Ok.is (λ it is.
-    let before : ServeKnown = serve_known_of g.T.Trace.known g.O.Sink.known g.C.Clock.known g.D.Disk.known g.L.Link.known g.V.VsockHost.known g.F.Files.known g.W.Words.known
+    let before : ServeKnown = serve_known_of g.T.Trace.known g.O.Sink.known g.C.Clock.known g.D.Disk.known g.L.Link.known g.V.VsockHost.known g.G.GuestWords.known g.F.Files.known g.W.Words.known
     g.M.Listener.known c.args.out.now.sink c.args.out.now.files c.args.with.now in
     let refused = c.refuse_words in
     subst (λ (f : g.row.F.Denot). Serves refused.result it before (serve_known_of g.T.Trace.known g.O.Sink.known g.C.Clock.known g.D.Disk.known g.L.Link.known g.V.VsockHost.known

@@ -11,3 +11,6 @@ returns-in-Vsock-clause-fits c = c.vsock_port.ensures.fits c.args.what.now c.in-
 
 pub returns-in-Balloon-clause-fits : goal.returns-in-Balloon-clause-fits
 returns-in-Balloon-clause-fits c = c.balloon_port.ensures.fits c.args.what.now c.in-Balloon.is
+
+pub returns-in-Entropy-clause-fits : goal.returns-in-Entropy-clause-fits
+returns-in-Entropy-clause-fits c = c.entropy_port.ensures.fits c.args.what.now c.in-Entropy.is

@@ -10,7 +10,7 @@ returns-in-Ok-clause-gives c = c.in-Ok.ensures ∙ ap (λ (k : Config). put_driv
 
 pub returns-in-Ok-clause-keeps : goal.returns-in-Ok-clause-keeps
 returns-in-Ok-clause-keeps c = λ world early. (
-  subst (λ (drives : List Drive). AreFitting drives c.args.config.now.interfaces c.args.config.now.vsock c.args.config.now.balloon)
+  subst (λ (drives : List Drive). AreFitting drives c.args.config.now.interfaces c.args.config.now.vsock c.args.config.now.balloon c.args.config.now.entropy)
       (sym (c.in-Ok.ensures ∙ ap (λ (k : Config). put_drive k.drives c.args.drive) c.get.ensures.same)) c.requires,
   early,
   tt,

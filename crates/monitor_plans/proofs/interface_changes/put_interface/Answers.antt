@@ -10,7 +10,7 @@ returns-in-Ok-clause-gives c = c.in-Ok.ensures ∙ ap (λ (k : Config). put_inte
 
 pub returns-in-Ok-clause-keeps : goal.returns-in-Ok-clause-keeps
 returns-in-Ok-clause-keeps c = λ world early. (
-  subst (λ (interfaces : List Interface). AreLinked c.args.config.now.drives interfaces c.args.config.now.vsock c.args.config.now.balloon c.args.config.now.mmds)
+  subst (λ (interfaces : List Interface). AreLinked c.args.config.now.drives interfaces c.args.config.now.vsock c.args.config.now.balloon c.args.config.now.entropy c.args.config.now.mmds)
       (sym (c.in-Ok.ensures ∙ ap (λ (k : Config). put_interface k.interfaces c.args.interface) c.get.ensures.same)) c.requires,
   early,
   tt,

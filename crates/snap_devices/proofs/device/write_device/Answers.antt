@@ -2,7 +2,7 @@
 use Rattle.std.proofs.Common.{◌≡◌, subst, true}
 use Rattle.guest_devices.specs.declared.device.Device.{Device}
 use Rattle.guest_devices.specs.Kept.{is_saved}
-use Rattle.snap_devices.proofs.Writing.{balloon_device, block_device, net_device, vsock_device}
+use Rattle.snap_devices.proofs.Writing.{balloon_device, block_device, entropy_device, net_device, vsock_device}
 use Rattle.snap_devices.proofs.device.write_device.Goals as goal
 
 -- no connection is written
@@ -52,3 +52,15 @@ returns-in_ok-write_vsock-in-Vsock-clause-bytes c =
     (vsock_device c.args.it.now c.in-Vsock.vsock c.args.out.now.items c.write-in-Vsock.new.out.items
     c.write_vsock.new.out.items c.in-Vsock.is c.in_ok-write_vsock-in-Vsock.ensures.fits
     c.in_ok-write-in-Vsock.ensures.bytes c.in_ok-write_vsock-in-Vsock.ensures.bytes).bytes
+
+pub returns-in_ok-write_entropy-in-Entropy-clause-fits : goal.returns-in_ok-write_entropy-in-Entropy-clause-fits
+returns-in_ok-write_entropy-in-Entropy-clause-fits c =
+    (entropy_device c.args.it.now c.in-Entropy.entropy c.args.out.now.items c.write-in-Entropy.new.out.items
+    c.write_entropy.new.out.items c.in-Entropy.is c.in_ok-write_entropy-in-Entropy.ensures.fits
+    c.in_ok-write-in-Entropy.ensures.bytes c.in_ok-write_entropy-in-Entropy.ensures.bytes).fits
+
+pub returns-in_ok-write_entropy-in-Entropy-clause-bytes : goal.returns-in_ok-write_entropy-in-Entropy-clause-bytes
+returns-in_ok-write_entropy-in-Entropy-clause-bytes c =
+    (entropy_device c.args.it.now c.in-Entropy.entropy c.args.out.now.items c.write-in-Entropy.new.out.items
+    c.write_entropy.new.out.items c.in-Entropy.is c.in_ok-write_entropy-in-Entropy.ensures.fits
+    c.in_ok-write-in-Entropy.ensures.bytes c.in_ok-write_entropy-in-Entropy.ensures.bytes).bytes

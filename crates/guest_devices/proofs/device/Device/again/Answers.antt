@@ -11,3 +11,6 @@ returns-in-Vsock-clause-kept c = c.vsock_again.ensures.kept c.args.self.now c.in
 
 pub returns-in-Balloon-clause-kept : goal.returns-in-Balloon-clause-kept
 returns-in-Balloon-clause-kept c = c.balloon_again.ensures.kept c.args.self.now c.in-Balloon.is
+
+pub returns-in-Entropy-clause-kept : goal.returns-in-Entropy-clause-kept
+returns-in-Entropy-clause-kept c = c.entropy_again.ensures.kept c.args.self.now c.in-Entropy.is

@@ -13,3 +13,6 @@ returns-in-Vsock c = c.tell_vsock.ensures c.args.self.now (device.Vsock c.tell_v
 
 pub returns-in-Balloon : goal.returns-in-Balloon
 returns-in-Balloon c = c.tell_balloon.ensures c.args.self.now (device.Balloon c.tell_balloon.new.balloon) c.in-Balloon.is refl
+
+pub returns-in-Entropy : goal.returns-in-Entropy
+returns-in-Entropy c = c.tell_entropy.ensures c.args.self.now (device.Entropy c.tell_entropy.new.entropy) c.in-Entropy.is refl

@@ -1,7 +1,7 @@
 -- By its buckets.
 use Rattle.std.proofs.Common.{true, false, sym, ap, ◌∙◌}
 use Rattle.guest_devices.specs.Moments.{are_before, is_timely}
-use Rattle.guest_devices.proofs.Moments.{block_test, both_on, first_off, rx_test, tx_test}
+use Rattle.guest_devices.proofs.Moments.{block_test, both_on, entropy_test, first_off, rx_test, tx_test}
 use Rattle.guest_devices.proofs.device.Device.is_timely.Goals as goal
 
 pub returns-in-Block : goal.returns-in-Block
@@ -23,3 +23,10 @@ returns-else-are_before c =
     ∙ rx_test c.args.time c.state-in-Net.result.now c.in-Net.net c.rx.result.now c.state-in-Net.ensures.state c.rx.ensures in
     c.if-are_before.false ∙ first_off _ (are_before c.args.time c.in-Net.net.kind.own.tx) (sym first ∙ c.if-are_before.false)
     ∙ sym (ap (is_timely c.args.time) c.in-Net.is)
+
+pub returns-in-Entropy : goal.returns-in-Entropy
+returns-in-Entropy c =
+    c.are_before-in-Entropy.ensures
+    ∙ entropy_test c.args.time c.state-in-Entropy.result.now c.in-Entropy.entropy c.limits.result.now c.state-in-Entropy.ensures.state
+    c.limits.ensures
+    ∙ sym (ap (is_timely c.args.time) c.in-Entropy.is)

@@ -15,3 +15,6 @@ returns-in-Vsock c = ap (λ (d : Device). number_of (kept_of d).kind) (sym c.in-
 
 pub returns-in-Balloon : goal.returns-in-Balloon
 returns-in-Balloon c = ap (λ (d : Device). number_of (kept_of d).kind) (sym c.in-Balloon.is)
+
+pub returns-in-Entropy : goal.returns-in-Entropy
+returns-in-Entropy c = ap (λ (d : Device). number_of (kept_of d).kind) (sym c.in-Entropy.is)

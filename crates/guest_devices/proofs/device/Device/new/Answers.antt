@@ -11,3 +11,6 @@ returns-in-Vsock c = c.new_vsock.ensures c.args.what.now c.in-Vsock.is
 
 pub returns-in-Balloon : goal.returns-in-Balloon
 returns-in-Balloon c = c.new_balloon.ensures c.args.what.now c.in-Balloon.is
+
+pub returns-in-Entropy : goal.returns-in-Entropy
+returns-in-Entropy c = c.new_entropy.ensures c.args.what.now c.in-Entropy.is

@@ -11,3 +11,6 @@ returns-in-Vsock-clause-kept c = c.port_of_vsock.ensures.kept c.args.self.now c.
 
 pub returns-in-Balloon-clause-kept : goal.returns-in-Balloon-clause-kept
 returns-in-Balloon-clause-kept c = c.port_of_balloon.ensures.kept c.args.self.now c.in-Balloon.is
+
+pub returns-in-Entropy-clause-kept : goal.returns-in-Entropy-clause-kept
+returns-in-Entropy-clause-kept c = c.port_of_entropy.ensures.kept c.args.self.now c.in-Entropy.is

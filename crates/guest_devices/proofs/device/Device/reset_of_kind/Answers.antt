@@ -16,3 +16,6 @@ returns-in-Vsock c = c.reset_vsock.ensures c.args.self.now (device.Vsock c.reset
 
 pub returns-in-Balloon : goal.returns-in-Balloon
 returns-in-Balloon c = subst (λ (d : Device). device_left d ≡ left_reset (device_left d)) (sym c.in-Balloon.is) refl
+
+pub returns-in-Entropy : goal.returns-in-Entropy
+returns-in-Entropy c = subst (λ (d : Device). device_left d ≡ left_reset (device_left d)) (sym c.in-Entropy.is) refl

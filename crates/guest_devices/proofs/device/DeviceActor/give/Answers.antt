@@ -13,3 +13,6 @@ returns-in-Vsock c = c.give_vsock.ensures c.args.self.now (device.Vsock c.give_v
 
 pub returns-in-Balloon : goal.returns-in-Balloon
 returns-in-Balloon c = c.give_balloon.ensures c.args.self.now (device.Balloon c.give_balloon.new.balloon) c.in-Balloon.is refl
+
+pub returns-in-Entropy : goal.returns-in-Entropy
+returns-in-Entropy c = c.give_entropy.ensures c.args.self.now (device.Entropy c.give_entropy.new.entropy) c.in-Entropy.is refl

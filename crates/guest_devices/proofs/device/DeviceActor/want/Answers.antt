@@ -11,3 +11,6 @@ returns-in-Vsock c = c.want_of_vsock.ensures c.args.self.now c.in-Vsock.is
 
 pub returns-in-Balloon : goal.returns-in-Balloon
 returns-in-Balloon c = c.want_of_balloon.ensures c.args.self.now c.in-Balloon.is
+
+pub returns-in-Entropy : goal.returns-in-Entropy
+returns-in-Entropy c = c.want_of_entropy.ensures c.args.self.now c.in-Entropy.is

@@ -8,9 +8,9 @@ use Rattle.monitor_machine.proofs.Configured.{drives_stay}
 use Rattle.monitor_machine.proofs.machine.LiveMachine.take_drives.Goals as goal
 
 pub set_drives-requires : goal.set_drives-requires
-set_drives-requires c = subst (λ (l : Live). AreFitting c.args.drives l.config.interfaces l.config.vsock l.config.balloon) (sym c.self.view_is) c.requires.fit
+set_drives-requires c = subst (λ (l : Live). AreFitting c.args.drives l.config.interfaces l.config.vsock l.config.balloon l.config.entropy) (sym c.self.view_is) c.requires.fit
 
 pub invariant_of-self : goal.invariant_of-self
 invariant_of-self c =
     subst (λ (k : Config). IsReadyLive (record (live_of c.self.inside) { config = k })) (sym c.set_drives.ensures)
-    (drives_stay (live_of c.self.inside) c.args.drives (subst (λ (l : Live). AreFitting c.args.drives l.config.interfaces l.config.vsock l.config.balloon) (sym c.self.view_is) c.requires.fit) (ap (λ (l : Live). l.guest) c.self.view_is ∙ c.requires.early) c.self.invariant)
+    (drives_stay (live_of c.self.inside) c.args.drives (subst (λ (l : Live). AreFitting c.args.drives l.config.interfaces l.config.vsock l.config.balloon l.config.entropy) (sym c.self.view_is) c.requires.fit) (ap (λ (l : Live). l.guest) c.self.view_is ∙ c.requires.early) c.self.invariant)

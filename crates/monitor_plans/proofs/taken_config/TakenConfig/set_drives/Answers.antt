@@ -5,7 +5,7 @@ use Rattle.monitor_plans.proofs.taken_config.TakenConfig.set_drives.Goals as goa
 
 pub invariant_of-self : goal.invariant_of-self
 invariant_of-self c =
-    let fit = subst (λ (k : Config). AreFitting c.args.drives k.interfaces k.vsock k.balloon) (sym c.self.view_is) c.requires in
+    let fit = subst (λ (k : Config). AreFitting c.args.drives k.interfaces k.vsock k.balloon k.entropy) (sym c.self.view_is) c.requires in
     rw c.set_drives.ensures (record {
       source = c.self.invariant.source;
       drives = fit.0;
@@ -14,5 +14,6 @@ invariant_of-self c =
       mmds = c.self.invariant.mmds;
       machine = c.self.invariant.machine;
       balloon = c.self.invariant.balloon;
+      entropy = c.self.invariant.entropy;
       room = fit.1;
     })

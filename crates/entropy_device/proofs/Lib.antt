@@ -1,0 +1,9 @@
+pub mod Entropy
+pub mod Filled
+pub mod Limits
+pub mod Narrow
+pub mod Passing
+pub mod Resuming
+pub mod Stages
+pub mod Staying
+pub mod Working
