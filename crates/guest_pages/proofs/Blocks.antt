@@ -1,33 +1,36 @@
--- A flag for 64 pages: where a page is marked, so is its block.
-use Rattle.std.proofs.Common.{◌≡◌, ℕ, zero, suc, ◌+◌, ◌-◌, ◌*◌, ◌/◌, ◌<◌, ◌≤◌, Bool, true, false, ◌⊎◌, inl, inr, List, [], ◌∷◌, ◌++◌, length, drop, replicate, set, refl, sym, ap, ◌∙◌, subst, arith}
+-- A flag for 64 pages: where a page passes a test, as that it is marked, its block has it.
+use Rattle.std.proofs.Common.{◌≡◌, ℕ, zero, suc, ◌+◌, ◌-◌, ◌*◌, ◌/◌, ◌<◌, ◌≤◌, Bool, true, false, ◌⊎◌, inl, inr, List, [], ◌∷◌, ◌++◌, length, map, drop, replicate, set, refl, sym, ap, ◌∙◌, subst, arith}
 use Rattle.std.specs.Prelude.{slice_index_or}
 use Rattle.std.proofs.lemmas.List.{append-nil, append_assoc}
 use Rattle.guest_pages.specs.Flat.{AreSummed}
 use Rattle.guest_pages.specs.Marks.{marked_from}
 use Rattle.guest_pages.specs.Pages.{PageValue, cleared, marks_of, unmarked}
 
+abbrev pub is_marked : PageValue → Bool
+is_marked p = p.marked
+
 -- ---- a page of them becomes another
 
-mark_at : (pages : List PageValue) (n i : ℕ) (p : PageValue) → slice_index_or (marks_of (set pages n p)) i false ≡ true
-    → ((i ≡ n) × (p.marked ≡ true)) ⊎ (slice_index_or (marks_of pages) i false ≡ true)
-mark_at [] n i p marked = inr marked
-mark_at (q ∷ pages) zero zero p marked = inl (refl, marked)
-mark_at (q ∷ pages) zero (suc i) p marked = inr marked
-mark_at (q ∷ pages) (suc n) zero p marked = inr marked
-mark_at (q ∷ pages) (suc n) (suc i) p marked = one_more (mark_at pages n i p marked)
+mark_at : (test : PageValue → Bool) (pages : List PageValue) (n i : ℕ) (p : PageValue) → slice_index_or (map test (set pages n p)) i false ≡ true
+    → ((i ≡ n) × (test p ≡ true)) ⊎ (slice_index_or (map test pages) i false ≡ true)
+mark_at test [] n i p marked = inr marked
+mark_at test (q ∷ pages) zero zero p marked = inl (refl, marked)
+mark_at test (q ∷ pages) zero (suc i) p marked = inr marked
+mark_at test (q ∷ pages) (suc n) zero p marked = inr marked
+mark_at test (q ∷ pages) (suc n) (suc i) p marked = one_more (mark_at test pages n i p marked)
   where
-    one_more : ((i ≡ n) × (p.marked ≡ true)) ⊎ (slice_index_or (marks_of pages) i false ≡ true)
-        → ((suc i ≡ suc n) × (p.marked ≡ true)) ⊎ (slice_index_or (marks_of pages) i false ≡ true)
+    one_more : ((i ≡ n) × (test p ≡ true)) ⊎ (slice_index_or (map test pages) i false ≡ true)
+        → ((suc i ≡ suc n) × (test p ≡ true)) ⊎ (slice_index_or (map test pages) i false ≡ true)
     one_more (inl here) = inl (ap (λ (k : ℕ). suc k) here.0, here.1)
     one_more (inr other) = inr other
 
-pub summed_after : (pages : List PageValue) (blocks now : List Bool) (n : ℕ) (p : PageValue)
+pub summed_after : (test : PageValue → Bool) (pages : List PageValue) (blocks now : List Bool) (n : ℕ) (p : PageValue)
     → ((k : ℕ) → slice_index_or blocks k true ≡ true → slice_index_or now k true ≡ true)
-    → (p.marked ≡ true → slice_index_or now (n / 64) true ≡ true)
-    → AreSummed (marks_of pages) blocks → AreSummed (marks_of (set pages n p)) now
-summed_after pages blocks now n p more own summed = λ i marked. by_place i (mark_at pages n i p marked)
+    → (test p ≡ true → slice_index_or now (n / 64) true ≡ true)
+    → AreSummed (map test pages) blocks → AreSummed (map test (set pages n p)) now
+summed_after test pages blocks now n p more own summed = λ i marked. by_place i (mark_at test pages n i p marked)
   where
-    by_place : (i : ℕ) → ((i ≡ n) × (p.marked ≡ true)) ⊎ (slice_index_or (marks_of pages) i false ≡ true) → slice_index_or now (i / 64) true ≡ true
+    by_place : (i : ℕ) → ((i ≡ n) × (test p ≡ true)) ⊎ (slice_index_or (map test pages) i false ≡ true) → slice_index_or now (i / 64) true ≡ true
     by_place i (inl here) = subst (λ (k : ℕ). slice_index_or now (k / 64) true ≡ true) (sym here.0) (own here.1)
     by_place i (inr other) = more (i / 64) (summed i other)
 
@@ -73,18 +76,24 @@ past_all (b ∷ blocks) (suc k) past = past_all blocks k (omega arith)
 
 -- ---- marks, page by page
 
-pub mark_here : (pages : List PageValue) (k : ℕ) (page : PageValue) → k < length pages
-    → page ≡ slice_index_or pages k page → slice_index_or (marks_of pages) k false ≡ page.marked
-mark_here [] k page lt is = absurd (omega arith)
-mark_here (p ∷ pages) zero page lt is = ap (λ (q : PageValue). q.marked) (sym is)
-mark_here (p ∷ pages) (suc k) page lt is = mark_here pages k page (omega arith) is
+pub mark_here : (test : PageValue → Bool) (pages : List PageValue) (k : ℕ) (page : PageValue) → k < length pages
+    → page ≡ slice_index_or pages k page → slice_index_or (map test pages) k false ≡ test page
+mark_here test [] k page lt is = absurd (omega arith)
+mark_here test (p ∷ pages) zero page lt is = ap test (sym is)
+mark_here test (p ∷ pages) (suc k) page lt is = mark_here test pages k page (omega arith) is
 
-mark_past : (pages : List PageValue) (k : ℕ) → length pages ≤ k → slice_index_or (marks_of pages) k false ≡ true → ⊥
-mark_past [] k past marked = cc
-mark_past (p ∷ pages) zero past marked = absurd (omega arith)
-mark_past (p ∷ pages) (suc k) past marked = mark_past pages k (omega arith) marked
+mark_past : (test : PageValue → Bool) (pages : List PageValue) (k : ℕ) → length pages ≤ k → slice_index_or (map test pages) k false ≡ true → ⊥
+mark_past test [] k past marked = cc
+mark_past test (p ∷ pages) zero past marked = absurd (omega arith)
+mark_past test (p ∷ pages) (suc k) past marked = mark_past test pages k (omega arith) marked
 
-lt_or : (i n : ℕ) → (i < n) ⊎ (n ≤ i)
+-- where it passes only if it did
+pub summed_kept : (test : PageValue → Bool) (pages : List PageValue) (blocks : List Bool) (n : ℕ) (old new : PageValue) → n < length pages
+    → old ≡ slice_index_or pages n old → (test new ≡ true → test old ≡ true) → AreSummed (map test pages) blocks → AreSummed (map test (set pages n new)) blocks
+summed_kept test pages blocks n old new lt was stays summed =
+    summed_after test pages blocks blocks n new (λ k is. is) (λ is. summed n (mark_here test pages n old lt was ∙ stays is)) summed
+
+pub lt_or : (i n : ℕ) → (i < n) ⊎ (n ≤ i)
 lt_or i zero = inr (omega arith)
 lt_or zero (suc n) = inl (omega arith)
 lt_or (suc i) (suc n) = one_more (lt_or i n)
@@ -97,27 +106,27 @@ lt_or (suc i) (suc n) = one_more (lt_or i n)
 abbrev pub AreSummedTo : ℕ → List Bool → List Bool → Type 0
 AreSummedTo n marks blocks = (i : ℕ) → i < n → slice_index_or marks i false ≡ true → slice_index_or blocks (i / 64) true ≡ true
 
-pub summed_one : (pages : List PageValue) (blocks now : List Bool) (n : ℕ) (page : PageValue) → n < length pages
+pub summed_one : (test : PageValue → Bool) (pages : List PageValue) (blocks now : List Bool) (n : ℕ) (page : PageValue) → n < length pages
     → page ≡ slice_index_or pages n page
     → ((k : ℕ) → slice_index_or blocks k true ≡ true → slice_index_or now k true ≡ true)
-    → (page.marked ≡ true → slice_index_or now (n / 64) true ≡ true)
-    → AreSummedTo n (marks_of pages) blocks → AreSummedTo (n + 1) (marks_of pages) now
-summed_one pages blocks now n page lt is more own summed = λ i below marked. by_place i (lt_or i n) below marked
+    → (test page ≡ true → slice_index_or now (n / 64) true ≡ true)
+    → AreSummedTo n (map test pages) blocks → AreSummedTo (n + 1) (map test pages) now
+summed_one test pages blocks now n page lt is more own summed = λ i below marked. by_place i (lt_or i n) below marked
   where
-    by_place : (i : ℕ) → (i < n) ⊎ (n ≤ i) → i < n + 1 → slice_index_or (marks_of pages) i false ≡ true → slice_index_or now (i / 64) true ≡ true
+    by_place : (i : ℕ) → (i < n) ⊎ (n ≤ i) → i < n + 1 → slice_index_or (map test pages) i false ≡ true → slice_index_or now (i / 64) true ≡ true
     by_place i (inl less) below marked = more (i / 64) (summed i less marked)
     by_place i (inr most) below marked =
         let here : n ≡ i = omega (arith, below, most) in
         subst (λ (k : ℕ). slice_index_or now (k / 64) true ≡ true) here
-        (own (sym (mark_here pages n page lt is) ∙ ap (λ (k : ℕ). slice_index_or (marks_of pages) k false) here ∙ marked))
+        (own (sym (mark_here test pages n page lt is) ∙ ap (λ (k : ℕ). slice_index_or (map test pages) k false) here ∙ marked))
 
-pub summed_all : (pages : List PageValue) (blocks : List Bool) (n : ℕ) → length pages ≤ n → AreSummedTo n (marks_of pages) blocks
-    → AreSummed (marks_of pages) blocks
-summed_all pages blocks n all summed = λ i marked. by_place i (lt_or i n) marked
+pub summed_all : (test : PageValue → Bool) (pages : List PageValue) (blocks : List Bool) (n : ℕ) → length pages ≤ n → AreSummedTo n (map test pages) blocks
+    → AreSummed (map test pages) blocks
+summed_all test pages blocks n all summed = λ i marked. by_place i (lt_or i n) marked
   where
-    by_place : (i : ℕ) → (i < n) ⊎ (n ≤ i) → slice_index_or (marks_of pages) i false ≡ true → slice_index_or blocks (i / 64) true ≡ true
+    by_place : (i : ℕ) → (i < n) ⊎ (n ≤ i) → slice_index_or (map test pages) i false ≡ true → slice_index_or blocks (i / 64) true ≡ true
     by_place i (inl less) marked = summed i less marked
-    by_place i (inr most) marked = absurd (mark_past pages i (omega (arith, all, most)) marked)
+    by_place i (inr most) marked = absurd (mark_past test pages i (omega (arith, all, most)) marked)
 
 -- ---- the next page that is marked
 
@@ -188,11 +197,11 @@ module _ (pages : List PageValue) (blocks : List Bool) (k : ℕ) (all : List ℕ
   module _ (page : PageValue) (lt : k < length pages) (is : page ≡ slice_index_or pages k page) where
     pub passed_on : page.marked ≡ false → all ≡ marked_from (k + 1) (drop (k + 1) (marks_of pages))
     passed_on un = so_far ∙ passed (marks_of pages) k (λ marked.
-        let both : false ≡ true = sym un ∙ sym (mark_here pages k page lt is) ∙ marked in
+        let both : false ≡ true = sym un ∙ sym (mark_here is_marked pages k page lt is) ∙ marked in
         cc)
 
     pub found_on : page.marked ≡ true → all ≡ k ∷ marked_from (k + 1) (drop (k + 1) (marks_of pages))
-    found_on marked = so_far ∙ found (marks_of pages) k (mark_here pages k page lt is ∙ marked)
+    found_on marked = so_far ∙ found (marks_of pages) k (mark_here is_marked pages k page lt is ∙ marked)
 
   pub none_on : length pages ≤ k → all ≡ []
   none_on past = so_far ∙ no_more pages k past
@@ -242,7 +251,7 @@ first_less pages n p un is =
 -- the marks of others are summed as they were
 pub summed_less : (pages : List PageValue) (blocks : List Bool) (n : ℕ) (p : PageValue) → p.marked ≡ false → AreSummed (marks_of pages) blocks
     → AreSummed (marks_of (set pages n p)) blocks
-summed_less pages blocks n p un summed = summed_after pages blocks blocks n p (λ k is. is) (λ marked. let both : false ≡ true = sym un ∙ marked in cc) summed
+summed_less pages blocks n p un summed = summed_after is_marked pages blocks blocks n p (λ k is. is) (λ marked. let both : false ≡ true = sym un ∙ marked in cc) summed
 
 -- a page without its mark stands in the list of all without theirs
 pub cleared_same : (pages : List PageValue) (n : ℕ) (page new : PageValue) → page ≡ slice_index_or pages n page → new ≡ unmarked page

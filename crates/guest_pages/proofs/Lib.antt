@@ -11,6 +11,7 @@ pub mod Loading
 pub mod Making
 pub mod Marking
 pub mod Sets
+pub mod Reserved
 pub mod Slotted
 pub mod Staying
 pub mod Touching

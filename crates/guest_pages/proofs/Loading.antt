@@ -60,7 +60,7 @@ loaded_more m n k block offset done count at inner so_far more here inside small
     more ∙ ap (loaded at (take count (drop done block))) so_far ∙ (λ i. record m { bytes = bytes i })
 
 -- new pages are an empty memory
-replicate-add : {A : Type 0} (a b : ℕ) (x : A) → replicate a x ++ replicate b x ≡ replicate (a + b) x
+pub replicate-add : {A : Type 0} (a b : ℕ) (x : A) → replicate a x ++ replicate b x ≡ replicate (a + b) x
 replicate-add zero b x = ap (λ (n : ℕ). replicate n x) (omega arith)
 replicate-add (suc a) b x =
     let next : suc (a + b) ≡ suc a + b = omega arith in

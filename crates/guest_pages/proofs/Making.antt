@@ -5,12 +5,13 @@ use Rattle.std.proofs.lemmas.List.{get_or-map, length-map, length-set}
 use Rattle.std.proofs.lemmas.List.Sums.{sum_by-set, sum_by-cons}
 use Rattle.vm_types.specs.declared.ids.PlaceId.{PlaceId}
 use Rattle.guest_pages.specs.Code.{IsCode}
-use Rattle.guest_pages.specs.Flat.{ArePages, AreSummed, IsSet}
+use Rattle.guest_pages.specs.Flat.{ArePages, AreSummed, IsSet, reserved_of}
 use Rattle.guest_pages.specs.declared.page_set.code.CodePage.{CodePage}
 use Rattle.guest_pages.specs.Made.{PagesValue, is_made, unmade, CanMake, Takes, HasRoom, Spends, is_ready}
 use Rattle.guest_pages.specs.Pages.{PageValue, cleared, marks_of, new_page, new_pages, unmarked}
 use Rattle.guest_pages.proofs.Blocks.{none_summed, summed_same}
 use Rattle.guest_pages.proofs.Marking.{marks_cleared}
+use Rattle.guest_pages.proofs.Reserved.{cleared_holds}
 use Rattle.guest_pages.proofs.Sets.{cleared_are}
 
 abbrev pub the_pages : PagesValue → List PageValue
@@ -109,23 +110,23 @@ module _ (value : PagesValue) (pages : List PageValue) (i : ℕ) (old new : Page
         one false true e = omega arith
         one false false e = omega arith
 
-    pub is_set : (owned : ℕ) (blocks now : List Bool) → IsSet pages had owned blocks → ArePages 0 (set pages i new)
-        → AreSummed (marks_of (set pages i new)) now → IsSet (set pages i new) has owned now
-    is_set owned blocks now is are summed =
+    pub is_set : (owned : ℕ) (blocks now held holds : List Bool) → IsSet pages had owned blocks held → ArePages 0 (set pages i new)
+        → AreSummed (marks_of (set pages i new)) now → AreSummed (reserved_of (set pages i new)) holds → IsSet (set pages i new) has owned now holds
+    is_set owned blocks now held holds is are summed some =
         let sums = unmade_set pages i old new had has below was takes in
         let owns = is.owns in
-        record { are = are; owns = omega (arith, sums, owns, length-set pages i new); summed = summed }
+        record { are = are; owns = omega (arith, sums, owns, length-set pages i new); summed = summed; holds = some }
 
 pub kept_made : (a b c : Bool) → c ≡ (a || b) → a ≡ true → c ≡ true
 kept_made true b c is made = is
 kept_made false b c is made = cc
 
 -- a page into which bytes were put, that may be made now, of memory that is no blank
-pub patched_set : (value pages : List PageValue) (i spare owned : ℕ) (blocks : List Bool) (old new : PageValue) (count : ℕ) → value ≡ pages → i < length value
+pub patched_set : (value pages : List PageValue) (i spare owned : ℕ) (blocks held : List Bool) (old new : PageValue) (count : ℕ) → value ≡ pages → i < length value
     → old ≡ get_or pages i old → count ≡ cond (not old.made && new.made) 1 0 → (old.made ≡ true → new.made ≡ true)
-    → IsSet pages spare owned blocks → ArePages 0 (set pages i new) → marks_of (set pages i new) ≡ marks_of value
-    → IsSet (set pages i new) spare (owned + count) blocks
-patched_set value pages i spare owned blocks old new count view lt was is stays has are marks =
+    → IsSet pages spare owned blocks held → ArePages 0 (set pages i new) → marks_of (set pages i new) ≡ marks_of value
+    → reserved_of (set pages i new) ≡ reserved_of value → IsSet (set pages i new) spare (owned + count) blocks held
+patched_set value pages i spare owned blocks held old new count view lt was is stays has are marks slots =
     let long = ap (λ (l : List PageValue). length l) view in
     let below : i < length pages = omega (arith, long, lt) in
     let sums = unmade_set pages i old new count 0 below was (record { blank = is ∙ one (not old.made && new.made); stays = stays }) in
@@ -134,6 +135,7 @@ patched_set value pages i spare owned blocks old new count view lt was is stays 
       are = are;
       owns = omega (arith, sums, owns, length-set pages i new);
       summed = summed_same (marks_of pages) (marks_of (set pages i new)) blocks (marks ∙ ap marks_of view) has.summed;
+      holds = summed_same (reserved_of pages) (reserved_of (set pages i new)) held (slots ∙ ap reserved_of view) has.holds;
     }
   where
     one : (b : Bool) → cond b 1 0 ≡ cond b (0 + 1) 0
@@ -151,15 +153,16 @@ unmade_cleared (p ∷ ps) =
     let old = sum_by-cons {X = PageValue} weight p ps in
     omega (arith, new, old, unmade_cleared ps)
 
-pub cleared_set : (pages items : List PageValue) (spare owned : ℕ) (blocks now : List Bool) → items ≡ cleared pages
-    → IsSet pages spare owned blocks → IsSet items spare owned now
-cleared_set pages items spare owned blocks now is has =
+pub cleared_set : (pages items : List PageValue) (spare owned : ℕ) (blocks now held : List Bool) → items ≡ cleared pages
+    → IsSet pages spare owned blocks held → IsSet items spare owned now held
+cleared_set pages items spare owned blocks now held is has =
     let owns = has.owns in
-    subst (λ (l : List PageValue). IsSet l spare owned now) (sym is)
+    subst (λ (l : List PageValue). IsSet l spare owned now held) (sym is)
     (record {
       are = cleared_are 0 pages has.are;
       owns = omega (arith, owns, unmade_cleared pages, length-map pages unmarked);
       summed = none_summed (marks_of (cleared pages)) now (length pages) (marks_cleared pages);
+      holds = summed_same (reserved_of pages) (reserved_of (cleared pages)) held (cleared_holds pages) has.holds;
     })
 
 -- none of new pages is made

@@ -1,5 +1,5 @@
 // All pages of guest memory.
-ghost use Rattle.std.specs.Prelude.{◌≡◌, ◌≤◌, ◌<◌, ◌+◌, ◌*◌, ◌%◌, ◌^◌, ℕ, false, true, length, max, replicate, take, drop};
+ghost use Rattle.std.specs.Prelude.{◌≡◌, ◌≤◌, ◌<◌, ◌+◌, ◌-◌, ◌*◌, ◌%◌, ◌^◌, ◌++◌, ℕ, false, true, length, max, replicate, take, drop};
 ghost use Rattle.std.specs.Prelude.{slice_set, slice_index_or, IfOk, IfSome, MatchOption, None, OnErr, OnOk};
 ghost use Rattle.vm_types.specs.declared.ids.PlaceId.{PlaceId};
 ghost use Rattle.guest_memory.specs.Memory.{touch};
@@ -17,7 +17,7 @@ mod room;
 
 use crate::blank::Blank;
 use crate::slot::Slot;
-use blocks::{clear_all, clear_blocks, forget, marked_in, note, note_page};
+use blocks::{clear_all, clear_blocks, forget, marked_in, next_held, note, note_held, note_page};
 pub use code::CodePage;
 use guest_memory::{PAGE_SIZE, RAM_START};
 pub use parting::mark_made;
@@ -28,13 +28,14 @@ use vm_types::{ActorId, GuestAddr, Op, Reply};
 
 /// The pages in order, which contracts see as the list of their values, and by `flat_of` as the one memory; and how many spare
 /// ones there are, from which pages are made. `owned` is how many are made or spare, which acts don't change. `blocks` has a flag for
-/// 64 pages, which is set where one of them may be marked.
+/// 64 pages, which is set where one of them may be marked, and `held` one that is set where a hart may have something reserved in one.
 #[derive(Drop)]
 pub struct PageSet {
     pages: Vec<Slot>,
     spare: Vec<Blank>,
     owned: usize,
     blocks: Vec<bool>,
+    held: Vec<bool>,
 }
 
 impl Model for PageSet {
@@ -46,7 +47,7 @@ impl Model for PageSet {
 
     ghost view = { λ s. record { pages = s.pages.items; spare = length s.spare.items } };
 
-    ghost invariant = { λ s. IsSet s.pages.items (length s.spare.items) s.owned s.blocks.items };
+    ghost invariant = { λ s. IsSet s.pages.items (length s.spare.items) s.owned s.blocks.items s.held.items };
 }
 
 impl PageSet {
@@ -59,6 +60,7 @@ impl PageSet {
         ensures spare { IfOk result (λ set. set.spare ≡ 0) }
     {
         let blocks = clear_blocks(alloc, count as usize / 64 + 1)?;
+        let held = clear_blocks(alloc, count as usize / 64 + 1)?;
         let mut pages = Vec::with_capacity(alloc, count as usize)?;
         for number in 0..count {
             pages.push(Slot::new(number))?;
@@ -68,6 +70,7 @@ impl PageSet {
             spare: Vec::new(alloc),
             owned: 0,
             blocks,
+            held,
         })
     }
 
@@ -124,6 +127,7 @@ impl PageSet {
         let page = &mut self.pages[number];
         let reply = page.act(&mut self.spare, actor, op);
         note_page(&mut self.blocks, number, page);
+        note_held(&mut self.held, number, page);
         reply
     }
 
@@ -267,6 +271,19 @@ impl PageSet {
         ensures spends { Spends 1 self.old self.new }
     {
         self.pages[number].hold(&mut self.spare, hart, offset);
+        note(&mut self.held, number);
+    }
+
+    /// The first page from this number on in which a hart may have something reserved, or how many pages there are. It looks at one flag
+    /// for 64 pages.
+    pub fn next_reserved(&self, from: usize) -> usize
+        requires { from ≤ length self.now.pages }
+        ensures on { from ≤ result }
+        ensures most { result ≤ length self.now.pages }
+        ensures none { drop (32 * from) (flat_of self.now.pages).reserved
+            ≡ replicate (32 * (result - from)) None ++ drop (32 * result) (flat_of self.now.pages).reserved }
+    {
+        next_held(&self.pages, &self.held, from)
     }
 
     /// For each hart that there can be, the offset of the granule that it has reserved in the page of this number. `None` where no hart

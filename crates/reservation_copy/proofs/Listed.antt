@@ -1,6 +1,6 @@
 -- What is reserved in the slots of one page, and in those behind them.
-use Rattle.std.proofs.Common.{◌≡◌, ℕ, zero, suc, ◌+◌, ◌*◌, ◌/◌, ◌%◌, ◌<◌, List, [], ◌∷◌, ◌++◌, Option, Some, None, length, take, drop, get_or, replicate, refl, sym, ap, ◌∙◌, arith, append_assoc, append-nil}
-use Rattle.std.proofs.lemmas.List.{take-append-drop, drop-drop}
+use Rattle.std.proofs.Common.{◌≡◌, ℕ, zero, suc, ◌+◌, ◌-◌, ◌*◌, ◌/◌, ◌%◌, ◌<◌, ◌≤◌, List, [], ◌∷◌, ◌++◌, Option, Some, None, length, take, drop, get_or, replicate, refl, sym, ap, ◌∙◌, arith, append_assoc, append-nil}
+use Rattle.std.proofs.lemmas.List.{take-append-drop, drop-drop, drop_all, length-replicate}
 use Rattle.snap_state.specs.declared.copy.Reservation.{Reservation}
 use Rattle.flat_snapshot.specs.Copies.{reservations_from}
 
@@ -23,13 +23,13 @@ none_from slot (suc n) = none_from (suc slot) n
 
 -- ---- a page behind those before it
 
-module _ (items : List Reservation) (k : ℕ) (all : List (Option ℕ))
-    (so_far : items ++ reservations_from (32 * k) (drop (32 * k) all) ≡ reservations_from 0 all) where
+module _ (items : List Reservation) (k : ℕ) (all : List (Option ℕ)) (total : List Reservation)
+    (so_far : items ++ reservations_from (32 * k) (drop (32 * k) all) ≡ total) where
   abbrev rest : List Reservation
   rest = reservations_from (32 * (k + 1)) (drop (32 * (k + 1)) all)
 
   pub page_more : (slots : List (Option ℕ)) → slots ≡ take 32 (drop (32 * k) all) → length slots ≡ 32
-      → (items ++ reservations_from (32 * k) slots) ++ reservations_from (32 * (k + 1)) (drop (32 * (k + 1)) all) ≡ reservations_from 0 all
+      → (items ++ reservations_from (32 * k) slots) ++ reservations_from (32 * (k + 1)) (drop (32 * (k + 1)) all) ≡ total
   page_more slots is long =
       let next : 32 * k + 32 ≡ 32 * (k + 1) = omega arith in
       let behind : 32 * k + length slots ≡ 32 * (k + 1) = omega (arith, long) in
@@ -46,11 +46,33 @@ module _ (items : List Reservation) (k : ℕ) (all : List (Option ℕ))
       ∙ so_far
 
   pub page_free : take 32 (drop (32 * k) all) ≡ replicate 32 None
-      → items ++ reservations_from (32 * (k + 1)) (drop (32 * (k + 1)) all) ≡ reservations_from 0 all
+      → items ++ reservations_from (32 * (k + 1)) (drop (32 * (k + 1)) all) ≡ total
   page_free is =
       let none : items ++ reservations_from (32 * k) (replicate 32 None) ≡ items =
       ap (λ (l : List Reservation). items ++ l) (none_from (32 * k) 32) ∙ append-nil items in
       ap (λ (l : List Reservation). l ++ rest) (sym none) ∙ page_more (replicate 32 None) (sym is) refl
+
+-- pages in which nothing is
+pub pages_free : (items : List Reservation) (from to : ℕ) (all : List (Option ℕ)) (total : List Reservation) → from ≤ to
+    → drop (32 * from) all ≡ replicate (32 * (to - from)) None ++ drop (32 * to) all
+    → items ++ reservations_from (32 * from) (drop (32 * from) all) ≡ total → items ++ reservations_from (32 * to) (drop (32 * to) all) ≡ total
+pages_free items from to all total on free so_far =
+    let n : ℕ = 32 * (to - from) in
+    let none : List (Option ℕ) = replicate n None in
+    let long : length none ≡ n = length-replicate n None in
+    let end : 32 * from + length none ≡ 32 * to = omega (arith, on, long) in
+    ap (λ (l : List Reservation). items ++ l)
+    (sym (ap (reservations_from (32 * from)) free
+    ∙ from_append (32 * from) none (drop (32 * to) all)
+    ∙ ap (λ (l : List Reservation). l ++ reservations_from (32 * from + length none) (drop (32 * to) all)) (none_from (32 * from) n)
+    ∙ ap (λ (s : ℕ). reservations_from s (drop (32 * to) all)) end))
+    ∙ so_far
+
+-- behind the last page nothing is
+pub all_listed : (items : List Reservation) (k : ℕ) (all : List (Option ℕ)) (total : List Reservation) → length all ≤ 32 * k
+    → items ++ reservations_from (32 * k) (drop (32 * k) all) ≡ total → items ≡ total
+all_listed items k all total past so_far =
+    sym (append-nil items) ∙ ap (λ (l : List (Option ℕ)). items ++ reservations_from (32 * k) l) (sym (drop_all (32 * k) all past)) ∙ so_far
 
 -- ---- a slot behind those before it
 

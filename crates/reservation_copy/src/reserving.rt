@@ -1,5 +1,5 @@
 // What is reserved in memory, as a copy has it, and back.
-ghost use Rattle.std.specs.Prelude.{◌≡◌, ◌≤◌, ◌*◌, ◌^◌, ◌++◌, true, IfOk, OnOk, length};
+ghost use Rattle.std.specs.Prelude.{◌≡◌, ◌<◌, ◌≤◌, ◌+◌, ◌*◌, ◌^◌, ◌++◌, true, IfOk, List, OnOk, drop, length};
 ghost use Rattle.std.specs.List.{list_all};
 ghost use Rattle.guest_pages.specs.Made.{HasRoom};
 ghost use Rattle.guest_pages.specs.Pages.{flat_of, marks_of};
@@ -12,20 +12,38 @@ use guest_pages::PageSet;
 use snap_state::Reservation;
 use std::alloc::{AllocError, Global};
 
-/// What is reserved in the pages, by page and then by hart: a page has a slot for each hart that there can be. It looks once at each page
-/// in which nothing is.
-#[tactic(auto, using(crate::proofs::Listed::page_free, crate::proofs::Listed::page_more))]
+/// What is reserved in the pages, by page and then by hart: a page has a slot for each hart that there can be. It looks at those pages alone in
+/// whose block of 64 a hart may have something.
 pub fn reservations_of(alloc: Global, pages: &PageSet) -> Result<Items<Reservation>, AllocError>
     requires { length pages.now.pages ≤ 2 ^ 28 }
     ensures { IfOk result (λ items. items ≡ reservations_from 0 (flat_of pages.now.pages).reserved) }
 {
     let mut items = Items::new(alloc);
-    for page in 0..pages.len() {
-        if let Some(slots) = pages.some_reserved(page) {
-            add_page(&mut items, page as u32, slots)?;
-        }
+    let mut page = pages.next_reserved(0);
+    while page < pages.len() {
+        add_reserved(&mut items, pages, page)?;
+        page = pages.next_reserved(page + 1);
     }
     Ok(items)
+}
+
+// What is reserved in the page of this number, behind the others.
+#[tactic(auto, using(crate::proofs::Listed::page_free, crate::proofs::Listed::page_more))]
+fn add_reserved(
+    items: &mut Items<Reservation>,
+    pages: &PageSet,
+    page: usize,
+) -> Result<(), AllocError>
+    requires there { page < length pages.now.pages }
+    requires few { length pages.now.pages ≤ 2 ^ 28 }
+    ensures { OnOk result ((all : List Reservation) →
+        items.old ++ reservations_from (32 * page) (drop (32 * page) (flat_of pages.now.pages).reserved) ≡ all →
+        items.new ++ reservations_from (32 * (page + 1)) (drop (32 * (page + 1)) (flat_of pages.now.pages).reserved) ≡ all) }
+{
+    if let Some(slots) = pages.some_reserved(page) {
+        add_page(items, page as u32, slots)?;
+    }
+    Ok(())
 }
 
 // What is reserved in the slots of this page, behind the others.

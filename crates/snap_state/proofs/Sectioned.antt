@@ -1,5 +1,5 @@
 -- The sections of ports and of an entropy device are those that the test takes, and no others; and they are short.
-use Rattle.std.proofs.Common.{◌≡◌, ℕ, ◌+◌, ◌≤◌, ◌==◌, Bool, true, false, ◌&&◌, not, if◌then◌else◌, List, [], ◌∷◌, ◌++◌, length, take, drop, map, Option, Some, None, refl, sym, ap, ◌∙◌, arith, length-append}
+use Rattle.std.proofs.Common.{◌≡◌, ℕ, ◌+◌, ◌≤◌, Bool, true, false, ◌&&◌, not, if◌then◌else◌, List, [], ◌∷◌, ◌++◌, length, map, Option, Some, None, refl, ap, ◌∙◌, arith, length-append}
 use Rattle.std.specs.Int.{w32, to_le_bytes}
 use Rattle.std.specs.List.{list_any}
 use Rattle.std.specs.Str.{bytes_eq}
@@ -11,41 +11,6 @@ use Rattle.port_table.specs.declared.state.PortState.{PortState}
 use Rattle.snap_state.specs.declared.copy.Section.{Section}
 use Rattle.snap_state.specs.declared.copy.Section.TheVariants as section
 use Rattle.snap_state.specs.Sections.{are_configured, are_sections, configured, entropy_in, is_offering, offering_byte, offering_bytes, sections_of}
-
--- ---- the bytes of what is offered
-
-grouped : (a b c : Bool) → (a && (b && c)) ≡ ((a && b) && c)
-grouped true b c = refl
-grouped false b c = refl
-
--- bytes that are to be those of a front and then of a rest are tested in two parts
-pub in_parts : (front bytes rest : List ℕ)
-    → bytes_eq bytes (front ++ rest) ≡ (bytes_eq (take (length front) bytes) front && bytes_eq (drop (length front) bytes) rest)
-in_parts [] bytes rest = refl
-in_parts (y ∷ ys) [] rest = refl
-in_parts (y ∷ ys) (x ∷ xs) rest =
-    ap (λ (b : Bool). (x == y) && b) (in_parts ys xs rest)
-    ∙ grouped (x == y) (bytes_eq (take (length ys) xs) ys) (bytes_eq (drop (length ys) xs) rest)
-
-module _ (ports : List PortState) (bytes front : List ℕ) (count : ℕ) (many : count ≡ length ports) (is : front ≡ to_le_bytes w32 count) where
-  whole : bytes_eq bytes (offering_bytes ports)
-      ≡ (bytes_eq (take (length front) bytes) front && bytes_eq (drop (length front) bytes) (map offering_byte ports))
-  whole =
-      ap (λ (f : List ℕ). bytes_eq bytes (f ++ map offering_byte ports)) (sym (is ∙ ap (to_le_bytes w32) many))
-      ∙ in_parts front bytes (map offering_byte ports)
-
-  -- the count is there, and these are the items
-  pub counted : (items : List ℕ) (test : Bool) → bytes_eq (take (length front) bytes) front ≡ true → items ≡ drop (length front) bytes
-      → test ≡ bytes_eq items (map offering_byte ports) → test ≡ bytes_eq bytes (offering_bytes ports)
-  counted items test there items-are by =
-      by ∙ ap (λ (xs : List ℕ). bytes_eq xs (map offering_byte ports)) items-are
-      ∙ ap (λ (b : Bool). b && bytes_eq (drop (length front) bytes) (map offering_byte ports)) (sym there)
-      ∙ sym whole
-
-  -- or it isn't there
-  pub uncounted : bytes_eq (take (length front) bytes) front ≡ false → false ≡ bytes_eq bytes (offering_bytes ports)
-  uncounted lacks =
-      ap (λ (b : Bool). b && bytes_eq (drop (length front) bytes) (map offering_byte ports)) (sym lacks) ∙ sym whole
 
 -- ---- of an entropy device
 

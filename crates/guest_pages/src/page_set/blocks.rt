@@ -1,7 +1,7 @@
-// Which blocks of 64 pages may have one that is marked: an act sets the flag of its page's block, so that the marked pages are found
-// without a look at each page.
+// Which blocks of 64 pages may have one that is marked, and in which a hart may have something reserved: an act sets the flag of its page's block, so
+// that such pages are found without a look at each page.
 ghost use Rattle.std.specs.Prelude.{◌≡◌, ◌+◌, ◌*◌, ◌/◌, ◌<◌, ◌≤◌, ◌^◌, ℕ, [], ◌∷◌, true, false, length, slice_index_or, drop, IfOk, IfSome, MatchOption};
-ghost use Rattle.guest_pages.specs.Flat.{AreSummed};
+ghost use Rattle.guest_pages.specs.Flat.{AreFree, AreSummed, has_reserved, reserved_of};
 ghost use Rattle.guest_pages.specs.Marks.{marked_from};
 ghost use Rattle.guest_pages.specs.Pages.{cleared, marks_of};
 
@@ -24,9 +24,9 @@ pub fn forget(blocks: &mut [bool]) {
     }
 }
 
-// Whether a page in the block of this one may be marked.
+// Whether a page in the block of this one may be such a page.
 #[tactic(auto, using(crate::proofs::Blocks::past_all))]
-fn may_be_marked(blocks: &[bool], number: usize) -> bool
+fn may_be(blocks: &[bool], number: usize) -> bool
     ensures { result ≡ slice_index_or blocks.now (number / 64) true }
 {
     let block = number / 64;
@@ -73,9 +73,58 @@ fn note_new(blocks: &mut Vec<bool>, number: usize, page: &Slot)
     ensures more { (k : ℕ) → slice_index_or blocks.old.items k true ≡ true → slice_index_or blocks.new.items k true ≡ true }
     ensures own { page.now.marked ≡ true → slice_index_or blocks.new.items (number / 64) true ≡ true }
 {
-    if !may_be_marked(blocks, number) {
+    if !may_be(blocks, number) {
         note_page(blocks, number, page);
     }
+}
+
+/// Sets the flag of the block of this page if a hart has something reserved in it.
+#[tactic(auto, using(crate::proofs::Reserved::unreserved_page))]
+pub fn note_held(held: &mut Vec<bool>, number: usize, page: &Slot)
+    ensures more { (k : ℕ) → slice_index_or held.old.items k true ≡ true → slice_index_or held.new.items k true ≡ true }
+    ensures own { has_reserved page.now.reserved ≡ true → slice_index_or held.new.items (number / 64) true ≡ true }
+{
+    match page.some_reserved() {
+        Some(_) => note(held, number),
+        None => {}
+    }
+}
+
+/// The same for all pages, as `note_all`.
+pub fn note_all_held(held: &mut Vec<bool>, pages: &[Slot])
+    ensures { AreSummed (reserved_of pages.now) held.new.items }
+{
+    for number in 0..pages.len() {
+        note_new_held(held, number, &pages[number]);
+    }
+}
+
+fn note_new_held(held: &mut Vec<bool>, number: usize, page: &Slot)
+    ensures more { (k : ℕ) → slice_index_or held.old.items k true ≡ true → slice_index_or held.new.items k true ≡ true }
+    ensures own { has_reserved page.now.reserved ≡ true → slice_index_or held.new.items (number / 64) true ≡ true }
+{
+    if !may_be(held, number) {
+        note_held(held, number, page);
+    }
+}
+
+/// The first page from this number on in whose block a hart may have something reserved, or how many pages there are.
+#[tactic(auto, using(crate::proofs::Reserved::free_on, crate::proofs::Reserved::free_to_end))]
+pub fn next_held(pages: &[Slot], held: &[bool], from: usize) -> usize
+    requires from { from ≤ length pages.now }
+    requires holds { AreSummed (reserved_of pages.now) held.now }
+    ensures on { from ≤ result }
+    ensures most { result ≤ length pages.now }
+    ensures free { AreFree (reserved_of pages.now) from result }
+{
+    let mut number = from;
+    while number < pages.len() {
+        if may_be(held, number) {
+            return number;
+        }
+        number = (number / 64 + 1) * 64;
+    }
+    pages.len()
 }
 
 // The first page from this number on that is marked.
@@ -89,7 +138,7 @@ fn next_marked(pages: &[Slot], blocks: &[bool], from: usize) -> Option<usize>
 {
     let mut number = from;
     while number < pages.len() {
-        if !may_be_marked(blocks, number) {
+        if !may_be(blocks, number) {
             number = (number / 64 + 1) * 64;
             continue;
         }

@@ -5,7 +5,7 @@ ghost use Rattle.guest_pages.specs.Flat.{ArePages};
 ghost use Rattle.guest_pages.specs.Made.{made_of};
 
 use super::PageSet;
-use super::blocks::note_all;
+use super::blocks::{note_all, note_all_held};
 use crate::blank::Blank;
 use crate::slot::Slot;
 use std::alloc::Global;
@@ -30,6 +30,7 @@ impl PageSet {
     {
         self.owned = self.spare.len() + made_among(&pages);
         note_all(&mut self.blocks, &pages);
+        note_all_held(&mut self.held, &pages);
         self.pages = pages;
     }
 

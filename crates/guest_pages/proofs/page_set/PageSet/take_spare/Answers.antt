@@ -7,4 +7,5 @@ invariant_of-self c = record {
   are = c.self.invariant.are;
   owns = omega (arith, c.self.invariant.owns, c.move_some.ensures.left, all_counted c.self.inside.pages.items);
   summed = c.self.invariant.summed;
+  holds = c.self.invariant.holds;
 }
