@@ -68,6 +68,7 @@ same('204', putGuestNetworkInterfaceByID => {iface_id => 'eth0', body => {iface_
 same('204', putGuestVsock => {body => {guest_cid => 3, uds_path => 'vsock.sock'}});
 same('204', putBalloon => {body => {amount_mib => 1, deflate_on_oom => false, stats_polling_interval_s => 60}});
 same('200 1', describeBalloonConfig => {}, 'amount_mib');
+same('204', putEntropyDevice => {body => {rate_limiter => $limits}});
 same('204', putMmdsConfig => {body => {network_interfaces => ['eth0'], version => 'V2'}});
 same('204', putMmds => {body => {latest => {name => 'vm'}}});
 same('204', patchMmds => {body => {region => 'north'}});

@@ -46,6 +46,7 @@ CASES = (
     ("GET", "/balloon", 16, (), ("/balloon",)),
     ("PUT", "/balloon", 7, (), balloon(129)[1:]),
     ("PUT", "/balloon", 19, FULL, balloon(1)[1:]),
+    ("PUT", "/entropy", 19, FULL, ("/entropy", {})),
     ("PATCH", "/balloon", 16, BOOTED, ("/balloon", {"amount_mib": 1})),
     ("PATCH", "/balloon", 7, SILENT, ("/balloon", {"amount_mib": 5})),
     ("GET", STATISTICS, 16, BOOTED, (STATISTICS,)),

@@ -72,6 +72,10 @@ type balloon struct {
 	StatsPollingIntervals int64  `json:"stats_polling_interval_s,omitempty"`
 }
 
+type entropyDevice struct {
+	RateLimiter *rateLimiter `json:"rate_limiter,omitempty"`
+}
+
 type mmdsConfig struct {
 	IPV4Address       *string  `json:"ipv4_address,omitempty"`
 	NetworkInterfaces []string `json:"network_interfaces"`
@@ -228,6 +232,7 @@ func configure(ctx context.Context, it *machine) {
 	same("an interface", "", it.put(ctx, "/network-interfaces/"+url.PathEscape(*eth.IfaceID), &eth))
 	same("a vsock device", "", it.put(ctx, "/vsock", &vsock{GuestCid: to(int64(3)), UdsPath: to("vsock.sock"), VsockID: to("vsock0")}))
 	same("a balloon", "", it.put(ctx, "/balloon", &balloon{AmountMib: to(int64(1)), DeflateOnOom: to(true), StatsPollingIntervals: 60}))
+	same("an entropy device", "", it.put(ctx, "/entropy", &entropyDevice{RateLimiter: limits(10)}))
 	same("a place of metadata", "", it.put(ctx, "/mmds/config", &mmdsConfig{NetworkInterfaces: []string{"eth0"}, Version: to("V2")}))
 	same("metadata", "", it.put(ctx, "/mmds", map[string]any{"latest": map[string]any{"meta-data": "here"}}))
 }

@@ -1,9 +1,9 @@
 -- All that an entropy device owes.
-use Rattle.std.proofs.Common.{ℕ, zero, suc, ◌-◌, ◌^◌, ◌<◌, ◌==◌, refl, inr, true, false, Option, Some, None, List, []}
+use Rattle.std.proofs.Common.{ℕ, zero, suc, ◌-◌, ◌^◌, ◌<◌, ◌==◌, refl, inr, true, false, Option, Some, None, List}
 use Rattle.vm_types.specs.declared.op.Op.TheVariants.{Out, Write}
 use Rattle.vm_types.specs.declared.op.OutOp.TheVariants.{DrawWord}
 use Rattle.device_trace.specs.Acts.{IsAskedBy}
-use Rattle.device_trace.specs.Doing.{and_then}
+use Rattle.device_trace.specs.Doing.{Doing, and_then}
 use Rattle.device_trace.specs.Keeps.{Keeps}
 use Rattle.device_trace.specs.Traces.{setting}
 use Rattle.device_trace.proofs.Keeping.{keeps_both, keeps_then}
@@ -42,18 +42,26 @@ module _ (port pages : ℕ) where
       (λ few. put_all_keeps pages bytes parts few (inside few)))
       (put_all_asks (IsAskedBy false is_word_call port) (writes port) bytes parts)
 
+  -- a word's bytes are written, and then what follows
+  word_stays : (word : Option ℕ) (len index : ℕ) (parts : List Part) (more : List Part → Doing ℕ)
+      → (pages < 2 ^ 32 → AreInside pages parts)
+      → ((rest : List Part) → (pages < 2 ^ 32 → AreInside pages rest)
+      → Keeps (IsDeviceAct false is_word_call port pages) (Any {A = ℕ}) (more rest))
+      → Keeps (IsDeviceAct false is_word_call port pages) (Any {A = ℕ})
+      (with_word word (before index) (λ word. and_then (put_all (word_bytes len index word) parts) more))
+  word_stays None len index parts more inside each = tt
+  word_stays (Some word) len index parts more inside each =
+      keeps_then (IsDeviceAct false is_word_call port pages) IsLeft (Any {A = ℕ}) (put_all (word_bytes len index word) parts) more
+      (put_stays (word_bytes len index word) parts inside) (λ rest left. each rest left.0)
+
   pub filling_stays : (n len index : ℕ) (parts : List Part) → (pages < 2 ^ 32 → AreInside pages parts)
       → Keeps (IsDeviceAct false is_word_call port pages) (Any {A = ℕ}) (filling n len index parts)
   filling_stays zero len index parts inside = tt
-  filling_stays (suc n) len index parts inside = (asks, λ reply fit. word_stays (word_of reply)) where
-    word_stays : (word : Option ℕ)
-        → Keeps (IsDeviceAct false is_word_call port pages) (Any {A = ℕ})
-        (with_word word (before index) (λ word. and_then (put_all (word_bytes len index word) parts) (λ rest. filling n len (suc index) rest)))
-    word_stays None = tt
-    word_stays (Some word) =
-        keeps_then (IsDeviceAct false is_word_call port pages) IsLeft (Any {A = ℕ}) (put_all (word_bytes len index word) parts)
-        (λ rest. filling n len (suc index) rest) (put_stays (word_bytes len index word) parts inside)
-        (λ rest left. filling_stays n len (suc index) rest left.0)
+  filling_stays (suc n) len index parts inside = (
+    asks,
+    λ reply fit. word_stays (word_of reply) len index parts (λ rest. filling n len (suc index) rest) inside
+        (λ rest left. filling_stays n len (suc index) rest left),
+  )
 
   pub writing_stays : (len index : ℕ) (bytes : List ℕ) (parts : List Part) → (pages < 2 ^ 32 → AreInside pages parts)
       → Keeps (IsDeviceAct false is_word_call port pages) (Any {A = ℕ}) (writing len index bytes parts)

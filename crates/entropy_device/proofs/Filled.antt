@@ -1,8 +1,7 @@
 -- What a chain is filled with, and where that is put.
-use Rattle.std.proofs.Common.{◌≡◌, ℕ, zero, suc, ◌+◌, ◌-◌, ◌*◌, ◌<◌, ◌≤◌, ◌==◌, min, refl, sym, ap, ◌∙◌, subst, Bool, true, false, if◌then◌else◌, Option, Some, None, List, [], ◌∷◌, ◌++◌, length, take, drop, arith, append_assoc, length-append, length-drop}
-use Rattle.std.specs.Prelude.{flat_map}
+use Rattle.std.proofs.Common.{◌≡◌, ℕ, zero, suc, ◌+◌, ◌-◌, ◌<◌, ◌≤◌, ◌==◌, min, refl, sym, ap, ◌∙◌, subst, Bool, true, false, if◌then◌else◌, Option, Some, None, List, [], ◌∷◌, ◌++◌, length, take, drop, arith, append_assoc, length-append, length-drop}
 use Rattle.std.proofs.lemmas.Bool.{eqb-true}
-use Rattle.std.proofs.lemmas.List.{append-nil, length-take, length-take-le, take-append-drop, take_at}
+use Rattle.std.proofs.lemmas.List.{length-take-le, take-append-drop, take_at}
 use Rattle.vm_types.specs.declared.entry.Step.{Step}
 use Rattle.vm_types.specs.declared.op.Op.{Op}
 use Rattle.vm_types.specs.declared.op.Op.TheVariants.{Out, Write}
@@ -128,6 +127,70 @@ no_word : (at : ℕ) (piece : List ℕ) (reply : Reply) → Fits (Write at piece
 no_word at piece (Drawn word) fit = absurd (cc)
 no_word at piece reply fit = refl
 
+-- what is left of so many steps of putting
+abbrev Puts : ℕ → List Part → Type 0
+Puts n left =
+    (bytes : List ℕ) (parts : List Part) (steps : List Step) → length bytes ≤ n → AreParts parts → length bytes ≤ total parts
+    → Runs (put n bytes parts) steps left → IsPut bytes parts steps left
+
+-- a piece is written, and then the others
+put_on : (n : ℕ) (left : List Part) → Puts n left → (bytes : List ℕ) (parts : List Part) (steps : List Step) → length bytes ≤ suc n
+    → AreParts parts → length bytes ≤ total parts → 0 < share bytes parts
+    → Runs (Wants (Write (place parts) (take (share bytes parts) bytes)) (λ reply. put n (drop (share bytes parts) bytes) (past (share bytes parts) parts)))
+    steps left → IsPut bytes parts steps left
+put_on n left more bytes parts [] most are fits some runs = absurd runs
+put_on n left more bytes parts (s ∷ steps) most are fits some runs =
+    let piece : List ℕ = take (share bytes parts) bytes in
+    let shorter = length-drop (share bytes parts) bytes in
+    let less = total_past (share bytes parts) parts (omega arith) in
+    let rest = more (drop (share bytes parts) bytes) (past (share bytes parts) parts) steps (omega (arith, shorter, most, some))
+    (pieces.rest parts (share bytes parts) are (omega arith)) (omega (arith, shorter, less, fits)) runs.2 in
+    let long : length piece ≡ share bytes parts = length-take-le (share bytes parts) bytes (omega arith) in
+    record {
+      words = ap (λ (l : List ℕ). l ++ words_in steps) (no_word (place parts) piece s.reply runs.1) ∙ rest.words;
+      written =
+          ap (λ (op : Op). put_by op ++ written_in steps) runs.0 ∙ ap (λ (l : List ℕ). piece ++ l) rest.written
+          ∙ take-append-drop (share bytes parts) bytes;
+      places =
+          ap (λ (op : Op). (places_by op ++ places_in steps) ++ addresses left) runs.0
+          ∙ append_assoc (addresses_from (place parts) (length piece)) (places_in steps) (addresses left)
+          ∙ ap (λ (l : List ℕ). addresses_from (place parts) (length piece) ++ l) rest.places
+          ∙ ap (λ (k : ℕ). addresses_from (place parts) k ++ addresses (past (share bytes parts) parts)) long
+          ∙ sym (pieces.piece parts (share bytes parts) are (omega arith));
+      are = rest.are;
+      many = let all = rest.many in omega (arith, all, shorter, less);
+    }
+
+by_bytes : (xs : List ℕ) → length xs ≤ 0 → xs ≡ []
+by_bytes [] is = refl
+by_bytes (x ∷ xs) is = absurd (omega (arith, is))
+
+by_room : (space : ℕ) (bytes : List ℕ) (parts : List Part) → AreParts parts → length bytes ≤ total parts → room parts ≡ space
+    → share bytes parts ≡ 0 → bytes ≡ []
+by_room zero bytes parts are fits end is =
+    let gone : parts ≡ [] = pieces.end parts are end in
+    let few : total parts ≡ 0 = ap total gone in
+    by_bytes bytes (omega (arith, fits, few))
+by_room (suc space) bytes parts are fits more is = by_bytes bytes (omega (arith, is, more))
+
+put_by_share : (n : ℕ) (left : List Part) → Puts n left → (bytes : List ℕ) (parts : List Part) (steps : List Step)
+    → length bytes ≤ suc n → AreParts parts → length bytes ≤ total parts → (test : Bool) → (share bytes parts == 0) ≡ test
+    → Runs (if test then Gives parts else Wants (Write (place parts) (take (share bytes parts) bytes))
+    (λ reply. put n (drop (share bytes parts) bytes) (past (share bytes parts) parts))) steps left
+    → IsPut bytes parts steps left
+put_by_share n left more bytes parts [] most are fits true none runs =
+    let no_bytes : bytes ≡ [] = by_room (room parts) bytes parts are fits refl (eqb-true (share bytes parts) 0 none) in
+    record {
+      words = refl;
+      written = sym no_bytes;
+      places = ap addresses (sym runs);
+      are = subst AreParts runs are;
+      many = omega (arith, ap total runs, ap length no_bytes);
+    }
+put_by_share n left more bytes parts (s ∷ steps) most are fits true none runs = absurd runs
+put_by_share n left more bytes parts steps most are fits false some runs =
+    put_on n left more bytes parts steps most are fits (some_of (share bytes parts) some) runs
+
 put_run : (n : ℕ) (bytes : List ℕ) (parts : List Part) (steps : List Step) (left : List Part) → length bytes ≤ n → AreParts parts
     → length bytes ≤ total parts → Runs (put n bytes parts) steps left → IsPut bytes parts steps left
 put_run zero [] parts [] left most are fits runs =
@@ -140,59 +203,8 @@ put_run zero [] parts [] left most are fits runs =
     }
 put_run zero (b ∷ bytes) parts steps left most are fits runs = absurd (omega (arith, most))
 put_run zero [] parts (s ∷ steps) left most are fits runs = absurd runs
-put_run (suc n) bytes parts steps left most are fits runs = by_share (share bytes parts == 0) refl steps runs where
-  put_on : (steps : List Step) → 0 < share bytes parts
-      → Runs (Wants (Write (place parts) (take (share bytes parts) bytes)) (λ reply. put n (drop (share bytes parts) bytes) (past (share bytes parts) parts)))
-      steps left → IsPut bytes parts steps left
-  put_on [] some runs = absurd runs
-  put_on (s ∷ steps) some runs =
-      let piece : List ℕ = take (share bytes parts) bytes in
-      let shorter = length-drop (share bytes parts) bytes in
-      let less = total_past (share bytes parts) parts (omega arith) in
-      let rest = put_run n (drop (share bytes parts) bytes) (past (share bytes parts) parts) steps left (omega (arith, shorter, most, some))
-      (pieces.rest parts (share bytes parts) are (omega arith)) (omega (arith, shorter, less, fits)) runs.2 in
-      let long : length piece ≡ share bytes parts = length-take-le (share bytes parts) bytes (omega arith) in
-      record {
-        words = ap (λ (l : List ℕ). l ++ words_in steps) (no_word (place parts) piece s.reply runs.1) ∙ rest.words;
-        written =
-            ap (λ (op : Op). put_by op ++ written_in steps) runs.0 ∙ ap (λ (l : List ℕ). piece ++ l) rest.written
-            ∙ take-append-drop (share bytes parts) bytes;
-        places =
-            ap (λ (op : Op). (places_by op ++ places_in steps) ++ addresses left) runs.0
-            ∙ append_assoc (addresses_from (place parts) (length piece)) (places_in steps) (addresses left)
-            ∙ ap (λ (l : List ℕ). addresses_from (place parts) (length piece) ++ l) rest.places
-            ∙ ap (λ (k : ℕ). addresses_from (place parts) k ++ addresses (past (share bytes parts) parts)) long
-            ∙ sym (pieces.piece parts (share bytes parts) are (omega arith));
-        are = rest.are;
-        many = let all = rest.many in omega (arith, all, shorter, less);
-      }
-
-  by_bytes : (xs : List ℕ) → length xs ≤ 0 → xs ≡ []
-  by_bytes [] is = refl
-  by_bytes (x ∷ xs) is = absurd (omega (arith, is))
-
-  by_room : (space : ℕ) → room parts ≡ space → min (length bytes) (room parts) ≡ 0 → bytes ≡ []
-  by_room zero end is =
-      let gone : parts ≡ [] = pieces.end parts are end in
-      let few : total parts ≡ 0 = ap total gone in
-      by_bytes bytes (omega (arith, fits, few))
-  by_room (suc space) more is = by_bytes bytes (omega (arith, is, more))
-
-  by_share : (test : Bool) → (share bytes parts == 0) ≡ test → (steps : List Step)
-      → Runs (if test then Gives parts else Wants (Write (place parts) (take (share bytes parts) bytes))
-      (λ reply. put n (drop (share bytes parts) bytes) (past (share bytes parts) parts))) steps left
-      → IsPut bytes parts steps left
-  by_share true none [] runs =
-      let no_bytes : bytes ≡ [] = by_room (room parts) refl (eqb-true (share bytes parts) 0 none) in
-      record {
-        words = refl;
-        written = sym no_bytes;
-        places = ap addresses (sym runs);
-        are = subst AreParts runs are;
-        many = omega (arith, ap total runs, ap length no_bytes);
-      }
-  by_share true none (s ∷ steps) runs = absurd runs
-  by_share false more steps runs = put_on steps (some_of (share bytes parts) more) runs
+put_run (suc n) bytes parts steps left most are fits runs =
+    put_by_share n left (λ more rest acts. put_run n more rest acts left) bytes parts steps most are fits (share bytes parts == 0) refl runs
 
 -- ---- a chain is filled
 
@@ -211,6 +223,82 @@ given_is : (reply : Reply) (word : ℕ) → word_of reply ≡ Some word → give
 given_is (Drawn it) word is = let same : it ≡ word = cc in ap (λ (w : ℕ). w ∷ []) same
 given_is reply word is = absurd (cc)
 
+-- what is filled with so many words, from this one on
+abbrev Fills : ℕ → ℕ → ℕ → ℕ → Type 0
+Fills n len index used =
+    (parts : List Part) (steps : List Step) → AreParts parts → len - before index ≤ total parts
+    → Runs (filling n len index parts) steps used → IsFilled len index parts steps used
+
+-- a word failed
+fill_ended : (len index : ℕ) (parts : List Part) (s : Step) (steps : List Step) (used : ℕ) → index < word_count len
+    → s.op ≡ Out DrawWord → word_of s.reply ≡ None → Runs (Gives (before index)) steps used → IsFilled len index parts (s ∷ steps) used
+fill_ended len index parts s [] used more asked none runs =
+    let no_bytes : put_by s.op ≡ [] = ap put_by asked in
+    let no_places : places_by s.op ≡ [] = ap places_by asked in
+    let nothing : written_in (s ∷ []) ≡ [] = ap (λ (l : List ℕ). l ++ []) no_bytes in
+    record {
+      bytes =
+          nothing ∙ sym (take_none (len - before index))
+          ∙ sym (ap (λ (l : List ℕ). take (len - before index) (bytes_in (l ++ []))) (no_other s.reply none));
+      behind = addresses parts;
+      places = ap (λ (l : List ℕ). (l ++ []) ++ addresses parts) no_places;
+      used_is = let short : length (written_in (s ∷ [])) ≡ 0 = ap length nothing in omega (arith, runs, more, short);
+    }
+fill_ended len index parts s (t ∷ steps) used more asked none runs = absurd runs
+
+-- a word is written, and then the others
+fill_word : (n len index : ℕ) (parts : List Part) (s : Step) (steps : List Step) (used word : ℕ) → word_count len - index ≡ suc n
+    → AreParts parts → len - before index ≤ total parts → Fills n len (suc index) used → s.op ≡ Out DrawWord → word_of s.reply ≡ Some word
+    → Runs (and_then (put_all (word_bytes len index word) parts) (λ rest. filling n len (suc index) rest)) steps used
+    → IsFilled len index parts (s ∷ steps) used
+fill_word n len index parts s steps used word is are fits each asked is_word runs =
+    let more : index < word_count len = omega (arith, is) in
+    let no_bytes : put_by s.op ≡ [] = ap put_by asked in
+    let no_places : places_by s.op ≡ [] = ap places_by asked in
+    let own : List ℕ = word_bytes len index word in
+    let long : length own ≡ min 8 (len - before index) =
+    length-take-le (min 8 (len - before index)) (bytes_of 8 word) (omega (arith, values.long 8 word)) in
+    let parted = split (put_all own parts) (λ rest. filling n len (suc index) rest) steps used runs in
+    let done = put_run (length own) own parts parted.first parted.result (omega arith) are (omega (arith, long, fits)) parted.runs in
+    let rest = each parted.result parted.second done.are (let many = done.many in omega (arith, many, long, fits)) parted.rest in
+    let wrote : written_in (s ∷ steps) ≡ own ++ written_in parted.second =
+    ap (λ (l : List ℕ). l ++ written_in steps) no_bytes ∙ ap written_in parted.both ∙ written_both parted.first parted.second
+    ∙ ap (λ (l : List ℕ). l ++ written_in parted.second) done.written in
+    let words : words_in (s ∷ steps) ≡ word ∷ words_in parted.second =
+    ap (λ (l : List ℕ). l ++ words_in steps) (given_is s.reply word is_word)
+    ∙ ap (λ (l : List Step). word ∷ words_in l) parted.both
+    ∙ ap (λ (l : List ℕ). word ∷ l) (words_both parted.first parted.second ∙ ap (λ (l : List ℕ). l ++ words_in parted.second) done.words) in
+    let less : len - before index - length (bytes_of 8 word) ≡ len - before (suc index) = omega (arith, values.long 8 word) in
+    record {
+      bytes =
+          wrote ∙ ap (λ (l : List ℕ). own ++ l) rest.bytes
+          ∙ ap (λ (l : List ℕ). l ++ take (len - before (suc index)) (bytes_in (words_in parted.second)))
+          (take_least (len - before index) (min 8 (len - before index)) (bytes_of 8 word) (omega (arith, values.long 8 word)))
+          ∙ ap (λ (k : ℕ). take (len - before index) (bytes_of 8 word) ++ take k (bytes_in (words_in parted.second))) (sym less)
+          ∙ sym (take_over (len - before index) (bytes_of 8 word) (bytes_in (words_in parted.second)))
+          ∙ sym (ap (λ (l : List ℕ). take (len - before index) (bytes_in l)) words);
+      behind = rest.behind;
+      places =
+          ap (λ (l : List ℕ). (l ++ places_in steps) ++ rest.behind) no_places
+          ∙ ap (λ (l : List Step). places_in l ++ rest.behind) parted.both
+          ∙ ap (λ (l : List ℕ). l ++ rest.behind) (places_both parted.first parted.second)
+          ∙ append_assoc (places_in parted.first) (places_in parted.second) rest.behind
+          ∙ ap (λ (l : List ℕ). places_in parted.first ++ l) rest.places ∙ done.places;
+      used_is =
+          let many : length (written_in (s ∷ steps)) ≡ length own + length (written_in parted.second) =
+          ap length wrote ∙ length-append own (written_in parted.second) in
+          let so_far = rest.used_is in omega (arith, many, so_far, long, more);
+    }
+
+fill_by : (n len index : ℕ) (parts : List Part) (s : Step) (steps : List Step) (used : ℕ) → word_count len - index ≡ suc n → AreParts parts
+    → len - before index ≤ total parts → Fills n len (suc index) used → s.op ≡ Out DrawWord → (o : Option ℕ) → word_of s.reply ≡ o
+    → Runs (with_word o (before index) (λ word. and_then (put_all (word_bytes len index word) parts) (λ rest. filling n len (suc index) rest))) steps used
+    → IsFilled len index parts (s ∷ steps) used
+fill_by n len index parts s steps used is are fits each asked None none runs =
+    fill_ended len index parts s steps used (omega (arith, is)) asked none runs
+fill_by n len index parts s steps used is are fits each asked (Some word) is_word runs =
+    fill_word n len index parts s steps used word is are fits each asked is_word runs
+
 fill_run : (n len index : ℕ) (parts : List Part) (steps : List Step) (used : ℕ) → word_count len - index ≡ n → AreParts parts
     → len - before index ≤ total parts → Runs (filling n len index parts) steps used → IsFilled len index parts steps used
 fill_run zero len index parts [] used is are fits runs =
@@ -222,68 +310,9 @@ fill_run zero len index parts [] used is are fits runs =
     }
 fill_run zero len index parts (s ∷ steps) used is are fits runs = absurd runs
 fill_run (suc n) len index parts [] used is are fits runs = absurd runs
-fill_run (suc n) len index parts (s ∷ steps) used is are fits runs = by_word (word_of s.reply) refl runs.2 where
-  more : index < word_count len
-  more = omega (arith, is)
-
-  no_bytes : put_by s.op ≡ []
-  no_bytes = ap put_by runs.0
-
-  no_places : places_by s.op ≡ []
-  no_places = ap places_by runs.0
-
-  by_word : (o : Option ℕ) → word_of s.reply ≡ o
-      → Runs (with_word o (before index) (λ word. and_then (put_all (word_bytes len index word) parts) (λ rest. filling n len (suc index) rest))) steps used
-      → IsFilled len index parts (s ∷ steps) used
-  by_word None none runs = ended steps runs where
-    ended : (steps : List Step) → Runs (Gives (before index)) steps used → IsFilled len index parts (s ∷ steps) used
-    ended [] runs =
-        let nothing : written_in (s ∷ []) ≡ [] = ap (λ (l : List ℕ). l ++ []) no_bytes in
-        record {
-          bytes =
-              nothing ∙ sym (take_none (len - before index))
-              ∙ sym (ap (λ (l : List ℕ). take (len - before index) (bytes_in (l ++ []))) (no_other s.reply none));
-          behind = addresses parts;
-          places = ap (λ (l : List ℕ). (l ++ []) ++ addresses parts) no_places;
-          used_is = let short : length (written_in (s ∷ [])) ≡ 0 = ap length nothing in omega (arith, runs, more, short);
-        }
-    ended (t ∷ steps) runs = absurd runs
-  by_word (Some word) is_word runs =
-      let own : List ℕ = word_bytes len index word in
-      let long : length own ≡ min 8 (len - before index) =
-      length-take-le (min 8 (len - before index)) (bytes_of 8 word) (omega (arith, values.long 8 word)) in
-      let parted = split (put_all own parts) (λ rest. filling n len (suc index) rest) steps used runs in
-      let done = put_run (length own) own parts parted.first parted.result (omega arith) are (omega (arith, long, fits)) parted.runs in
-      let rest = fill_run n len (suc index) parted.result parted.second used (omega (arith, is)) done.are
-      (let many = done.many in omega (arith, many, long, fits)) parted.rest in
-      let wrote : written_in (s ∷ steps) ≡ own ++ written_in parted.second =
-      ap (λ (l : List ℕ). l ++ written_in steps) no_bytes ∙ ap written_in parted.both ∙ written_both parted.first parted.second
-      ∙ ap (λ (l : List ℕ). l ++ written_in parted.second) done.written in
-      let words : words_in (s ∷ steps) ≡ word ∷ words_in parted.second =
-      ap (λ (l : List ℕ). l ++ words_in steps) (given_is s.reply word is_word)
-      ∙ ap (λ (l : List Step). word ∷ words_in l) parted.both
-      ∙ ap (λ (l : List ℕ). word ∷ l) (words_both parted.first parted.second ∙ ap (λ (l : List ℕ). l ++ words_in parted.second) done.words) in
-      let less : len - before index - length (bytes_of 8 word) ≡ len - before (suc index) = omega (arith, values.long 8 word) in
-      record {
-        bytes =
-            wrote ∙ ap (λ (l : List ℕ). own ++ l) rest.bytes
-            ∙ ap (λ (l : List ℕ). l ++ take (len - before (suc index)) (bytes_in (words_in parted.second)))
-            (take_least (len - before index) (min 8 (len - before index)) (bytes_of 8 word) (omega (arith, values.long 8 word)))
-            ∙ ap (λ (k : ℕ). take (len - before index) (bytes_of 8 word) ++ take k (bytes_in (words_in parted.second))) (sym less)
-            ∙ sym (take_over (len - before index) (bytes_of 8 word) (bytes_in (words_in parted.second)))
-            ∙ sym (ap (λ (l : List ℕ). take (len - before index) (bytes_in l)) words);
-        behind = rest.behind;
-        places =
-            ap (λ (l : List ℕ). (l ++ places_in steps) ++ rest.behind) no_places
-            ∙ ap (λ (l : List Step). places_in l ++ rest.behind) parted.both
-            ∙ ap (λ (l : List ℕ). l ++ rest.behind) (places_both parted.first parted.second)
-            ∙ append_assoc (places_in parted.first) (places_in parted.second) rest.behind
-            ∙ ap (λ (l : List ℕ). places_in parted.first ++ l) rest.places ∙ done.places;
-        used_is =
-            let many : length (written_in (s ∷ steps)) ≡ length own + length (written_in parted.second) =
-            ap length wrote ∙ length-append own (written_in parted.second) in
-            let so_far = rest.used_is in omega (arith, many, so_far, long, more);
-      }
+fill_run (suc n) len index parts (s ∷ steps) used is are fits runs =
+    fill_by n len index parts s steps used is are fits
+    (λ left acts. fill_run n len (suc index) left acts used (omega (arith, is))) runs.0 (word_of s.reply) refl runs.2
 
 filled : (parts : List Part) (steps : List Step) (used : ℕ) → AreParts parts → Runs (filling_from (filled_length parts) 0 parts) steps used
     → IsFilled (filled_length parts) 0 parts steps used

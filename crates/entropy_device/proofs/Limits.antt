@@ -1,5 +1,5 @@
 -- The limits of an entropy device change only where a chain passes.
-use Rattle.std.proofs.Common.{◌≡◌, ℕ, refl, ◌∙◌, Bool, true, false, if◌then◌else◌, ◌==◌, Option, Some, None, List}
+use Rattle.std.proofs.Common.{◌≡◌, ℕ, refl, ◌∙◌, Bool, true, false, if◌then◌else◌, ◌==◌, Some, None, List}
 use Rattle.vm_types.specs.declared.reply.Reply.{Reply}
 use Rattle.device_trace.specs.Doing.{Doing, Gives, Wants, led}
 use Rattle.vq_split.specs.declared.queue.Part.{Part}

@@ -1,5 +1,5 @@
 -- What an entropy device owes of what is kept of it.
-use Rattle.std.proofs.Common.{◌≡◌, ℕ, zero, suc, ◌-◌, ◌^◌, ◌<◌, ◌≤◌, ◌==◌, nat_le, nat_lt, min, refl, sym, ap, subst, inl, inr, Bool, true, false, if◌then◌else◌, Option, Some, None, IfSome, option_map, List, [], length, drop, take, arith, length-drop}
+use Rattle.std.proofs.Common.{◌≡◌, ℕ, zero, suc, ◌-◌, ◌^◌, ◌<◌, ◌≤◌, ◌==◌, nat_le, nat_lt, min, refl, sym, subst, inl, inr, Bool, true, false, if◌then◌else◌, Option, Some, None, IfSome, option_map, List, length, drop, take, arith, length-drop}
 use Rattle.std.specs.List.{All}
 use Rattle.std.proofs.lemmas.List.{length-take}
 use Rattle.std.proofs.lemmas.List.Elements.{All-drop, All-nil, All-take}
@@ -141,7 +141,7 @@ serving_stays port pages k (stage.Write len index spill) is =
 word_small : (len index word : ℕ) → All IsByte (word_bytes len index word)
 word_small len index word = All-take IsByte (min 8 (len - before index)) (bytes_of 8 word) (all_bytes 8 word)
 
-word_short : (len index word : ℕ) → length (word_bytes len index word) ≤ 8
+pub word_short : (len index word : ℕ) → length (word_bytes len index word) ≤ 8
 word_short len index word = omega (arith, length-take (min 8 (len - before index)) (bytes_of 8 word))
 
 module _ (sized : Bool) (pages : ℕ) where

@@ -1,5 +1,5 @@
 -- The stages that an entropy device may be in, by what is so in them.
-use Rattle.std.proofs.Common.{◌≡◌, ℕ, ◌&&◌, nat_le, nat_lt, refl, true, List, length}
+use Rattle.std.proofs.Common.{◌≡◌, ℕ, nat_le, nat_lt, refl, true, length}
 use Rattle.std.proofs.lemmas.Bool.{and_from, and_parts, le-leb, leb-true, lt-ltb, ltb-true}
 use Rattle.dev_core.specs.Pieces.{share}
 use Rattle.entropy_device.specs.declared.kind.Stage.{Stage}

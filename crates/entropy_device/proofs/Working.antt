@@ -1,7 +1,6 @@
 -- What is left where the code of an entropy device is, and where a reply leads.
-use Rattle.std.proofs.Common.{◌≡◌, ℕ, zero, suc, ◌+◌, ◌-◌, ◌<◌, ◌≤◌, ◌==◌, refl, sym, ap, ◌∙◌, subst, Bool, true, Option, Some, None, List, take, arith}
+use Rattle.std.proofs.Common.{◌≡◌, ℕ, zero, suc, ◌+◌, ◌-◌, ◌<◌, ◌≤◌, ◌==◌, refl, sym, ap, ◌∙◌, true, Option, Some, None, List, take, arith}
 use Rattle.std.proofs.lemmas.Bool.{eqb-true}
-use Rattle.vm_types.specs.declared.op.Op.{Op}
 use Rattle.vm_types.specs.declared.op.Op.TheVariants.{Out, Write}
 use Rattle.vm_types.specs.declared.op.OutOp.TheVariants.{DrawWord}
 use Rattle.vm_types.specs.declared.reply.Reply.{Reply}
@@ -11,17 +10,12 @@ use Rattle.vq_split.specs.declared.queue.Part.{Part}
 use Rattle.dev_core.specs.Pieces.{place, put_all, share}
 use Rattle.dev_core.proofs.Fuel.{and_then_asked, and_then_led}
 use Rattle.queue_device.specs.declared.kind.Begin.TheVariants as begin
-use Rattle.queue_device.specs.Acting.{Acting, Acts, Comes, Works, performing}
+use Rattle.queue_device.specs.Acting.{Acts, Comes, performing}
 use Rattle.queue_device.specs.Left.{begin_of}
 use Rattle.queue_device.proofs.Acting.{performing_acts}
 use Rattle.queue_device.proofs.Pieces.{put_asks}
 use Rattle.entropy_device.specs.Entropy.{Entropy, filled}
 use Rattle.entropy_device.specs.Words.{before, filling, filling_from, with_word, word_bytes, word_count, word_of, writing}
-
--- what is told of acts is told of others that are the same
-pub works_as : {A : Type 0} (t u : Acting Entropy A) (told : Option A) (e : Entropy) (op : Op) (on : Entropy → Reply → Acting Entropy A)
-    → t ≡ u → Works u told e op on → Works t told e op on
-works_as t u told e op on same works = subst (λ (x : Acting Entropy _). Works x told e op on) (sym same) works
 
 -- ---- a word is asked for
 

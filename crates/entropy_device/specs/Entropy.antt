@@ -7,7 +7,6 @@ use Rattle.device_trace.specs.Traces.{Rules, setting}
 use Rattle.vq_split.specs.declared.queue.Part.{Part}
 use Rattle.dev_core.specs.Pieces.{readable, total}
 use Rattle.rate_gate.specs.Gate.{Buckets, gate_passes, is_limited}
-use Rattle.queue_device.specs.declared.lanes.Which.{Which}
 use Rattle.queue_device.specs.declared.lanes.Which.TheVariants.{First}
 use Rattle.queue_device.specs.Acting.{Acting, Comes, performing}
 use Rattle.queue_device.specs.Chains.{Chain, Taken}

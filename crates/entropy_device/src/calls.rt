@@ -4,7 +4,7 @@ ghost use Rattle.entropy_device.specs.Work.{are_parts};
 
 use crate::kind::{
     EntropyChange, EntropyKind, Stage, WORD_SIZE, filled_length, is_stage, spilled, stage_again,
-    word_count,
+    without_piece, word_count,
 };
 use dev_core::{Collect, Scatter, readable, total};
 use queue_device::{Begin, Kind, TakenChain, TakenParts, Which, Work, parts_again};
@@ -161,7 +161,7 @@ impl Kind for EntropyKind {
         self.draw(filled_length(chain.parts()), 0, Scatter::new(parts))
     }
 
-    #[tactic(auto, using(crate::proofs::Working::word_led, crate::proofs::Working::fail_led, crate::proofs::Working::write_led, crate::proofs::Staying::write_next))]
+    #[tactic(auto, using(crate::proofs::Working::word_led, crate::proofs::Working::fail_led, crate::proofs::Working::write_led))]
     fn serve_on(&mut self, reply: &Reply) -> Option<Option<u32>> {
         match replace(&mut self.stage, Stage::Rest) {
             Stage::Draw(length, index, to) => match reply {
@@ -171,11 +171,7 @@ impl Kind for EntropyKind {
                 }
                 _ => Some(Some(WORD_SIZE * index)),
             },
-            Stage::Write(length, index, spill) => {
-                let mut spill = spill;
-                spill.give();
-                self.write(length, index, spill)
-            }
+            Stage::Write(length, index, spill) => self.write(length, index, without_piece(spill)),
             Stage::Rest => Some(None),
         }
     }

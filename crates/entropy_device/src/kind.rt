@@ -1,9 +1,12 @@
 // What an entropy device does, beside its rounds.
 ghost use Rattle.std.specs.Prelude.{ℕ, ◌≡◌, ◌<◌, ◌≤◌, ◌-◌, ◌*◌, true, length};
-ghost use Rattle.device_trace.specs.Doing.{Doing};
+ghost use Rattle.vm_types.specs.declared.reply.Reply.{Reply};
+ghost use Rattle.device_trace.specs.Doing.{led};
 ghost use Rattle.vq_split.specs.Kept.{are_inside};
+ghost use Rattle.dev_core.specs.Pieces.{past, share};
 ghost use Rattle.queue_device.specs.Acting.{Works, performing};
 ghost use Rattle.queue_device.specs.Kept.{work_after};
+ghost use Rattle.queue_device.specs.Spilling.{spill_left};
 ghost use Rattle.queue_device.specs.declared.lanes.Which.{Which};
 ghost use Rattle.queue_device.specs.declared.phase.Work.TheVariants as work;
 ghost use Rattle.entropy_device.specs.declared.kind.Stage.TheVariants.{Rest};
@@ -76,26 +79,42 @@ pub(crate) fn word_count(length: u32) -> u32
 
 // The bytes of a word, cut to what is left.
 #[tactic(auto, using(crate::proofs::Resuming::word_short))]
-fn word_bytes(length: u32, index: u32, word: u64) -> Piece
-    requires { IsWord length index }
-    ensures bytes { result ≡ word_bytes length index word }
+fn word_bytes(len: u32, index: u32, word: u64) -> Piece
+    requires { IsWord len index }
+    ensures bytes { result ≡ word_bytes len index word }
     ensures most { length result ≤ 8 }
 {
     let mut bytes = [0; 8];
     put64(&mut bytes, 0, word);
-    let left = WORD_SIZE.min(length - WORD_SIZE * index) as usize;
+    let left = WORD_SIZE.min(len - WORD_SIZE * index) as usize;
     Piece::from_slice(&bytes[..left])
 }
 
 // The bytes of a word, for these parts.
-pub(crate) fn spilled(length: u32, index: u32, word: u64, to: Scatter) -> Spill
-    requires { IsWord length index }
-    ensures spill { result ≡ record { held = word_bytes length index word; to = to } }
+pub(crate) fn spilled(len: u32, index: u32, word: u64, to: Scatter) -> Spill
+    requires { IsWord len index }
+    ensures spill { result ≡ record { held = word_bytes len index word; to = to } }
     ensures most { length result.held ≤ 8 }
 {
     let mut held = Held::new();
-    held.append(&word_bytes(length, index, word));
+    held.append(&word_bytes(len, index, word));
     Spill { held, to }
+}
+
+// What is left of a spill behind its next piece.
+#[tactic(auto, using(queue_device::proofs::Spilling::spill_on))]
+pub(crate) fn without_piece(spill: Spill) -> Spill
+    requires some { 0 < share spill.held spill.to }
+    requires few { length spill.held ≤ 8 }
+    ensures left { (reply : Reply) → spill_left result ≡ led (spill_left spill) reply }
+    ensures to { result.to ≡ past (share spill.held spill.to) spill.to }
+    ensures few { length result.held ≤ 8 }
+{
+    let mut rest = spill;
+    let piece = rest.share();
+    rest.held.skip(piece);
+    rest.to.pass(piece);
+    rest
 }
 
 // Whether one of so many bytes has a word of this number.
@@ -177,21 +196,21 @@ impl EntropyKind {
 
     // The bytes of that word are written, as long as there are some, and the next is asked for.
     #[tactic(auto, using(crate::proofs::Working::written, crate::proofs::Working::writes, crate::proofs::Staying::write_more))]
-    pub(crate) fn write(&mut self, length: u32, index: u32, spill: Spill) -> Option<Option<u32>>
-        requires word { IsWord length index }
+    pub(crate) fn write(&mut self, len: u32, index: u32, spill: Spill) -> Option<Option<u32>>
+        requires word { IsWord len index }
         requires few { length spill.held ≤ 8 }
         requires rest { self.old.stage ≡ Rest }
-        ensures works { Works (performing (writing length index spill.held spill.to) self.old.own filled)
+        ensures works { Works (performing (writing len index spill.held spill.to) self.old.own filled)
             result self.new.own (hand_of self.new.stage).op (hand_of self.new.stage).serving }
         ensures work { (pages : ℕ) (k : Which) → are_inside pages spill.to ≡ true →
             is_work (work_after result (work.Serve k)) pages self.new.stage ≡ true }
     {
         if spill.is_done() {
             let Spill { held: _, to } = spill;
-            return self.draw(length, index + 1, to);
+            return self.draw(len, index + 1, to);
         }
         let _parts = spill.to.parts();
-        self.stage = Stage::Write(length, index, spill);
+        self.stage = Stage::Write(len, index, spill);
         None
     }
 }

@@ -1,5 +1,5 @@
 -- Each field of a new device's port has its width.
-use Rattle.std.proofs.Common.{◌≡◌, ◌<◌, ◌^◌, ◌==◌, ℕ, Bool, true, false, not, refl, arith, Option, Some, None, unwrap_or}
+use Rattle.std.proofs.Common.{◌≡◌, ◌<◌, ◌^◌, ◌==◌, ℕ, [], Bool, true, false, not, refl, arith, Option, Some, None, unwrap_or}
 use Rattle.std.proofs.lemmas.List.Elements.{All-append, All-nil}
 use Rattle.std.proofs.lemmas.Nat.{or_lt}
 use Rattle.le_fields.specs.Fields.{IsByte, bytes_of}

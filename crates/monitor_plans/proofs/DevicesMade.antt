@@ -15,7 +15,7 @@ use Rattle.api_calls.specs.declared.vsock.Vsock.{Vsock}
 use Rattle.api_calls.specs.Form.{holds}
 use Rattle.vm_config.specs.declared.config.Config.{Config}
 use Rattle.vm_config.specs.Changes.{with_amount, with_interval}
-use Rattle.vm_config.specs.Devices.{balloon_count, balloon_device, balloon_devices, devices_in, devices_of, entropy_count, lone_devices, of_balloon, of_drive, of_interface, vsock_count}
+use Rattle.vm_config.specs.Devices.{balloon_count, balloon_device, devices_in, devices_of, entropy_count, lone_devices, of_balloon, of_drive, of_interface, vsock_count}
 use Rattle.vm_config.specs.Drives.{in_order}
 use Rattle.vm_config.proofs.DeviceLemmas.{balloon_at, counted, length-ordered}
 use Rattle.port_table.specs.declared.kind.DeviceKind.{DeviceKind}

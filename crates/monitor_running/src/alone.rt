@@ -24,8 +24,8 @@ use vm_world::World;
 
 /// A hart, the devices and the gate are looked at after so many events, and where the hart waits then, or a device doesn't, or the
 /// gate is closed, its turn is over. A wait and its look come in turn, so an even number would find a hart that waits at its look
-/// again and again.
-const EVENTS_AT_ONCE: u64 = 1_023;
+/// again and again. The pages that are spare for them, one an event, are memory of the monitor's own.
+const EVENTS_AT_ONCE: u64 = 255;
 
 /// A turn of one hart has at most so many events, so that it takes less than a millisecond.
 pub const MOST_ALONE: u32 = 49_152;

@@ -341,7 +341,7 @@ fn run_world<
 /// rotation where it made its events in less time than a slice when both were made last, and a slice the first time, and once in
 /// 10,001 turns at least. Where one hart alone has something to do, and each other one waits, it is two events of the timer and of each
 /// other hart, and then, where these wait still, events of that hart. In one thread a hart has events until it waits or the gate is
-/// closed, which is asked with the first pass after every 1,023 of them, `steps` at most, and 49,152 of all harts: no slice is opened. Where every hart waits it is two events of the timer and of each
+/// closed, which is asked with the first pass after every 255 of them, `steps` at most, and 49,152 of all harts: no slice is opened. Where every hart waits it is two events of the timer and of each
 /// hart, without the gate, and where all of them wait still, the clock rests, until the next timer interrupt is due at most, and a
 /// millisecond where a device asked guest time, as one does whose chain waits for it. It rests
 /// too where no guest runs, and where there are fewer passes than actors or more harts than a slice has (no start and no load makes so

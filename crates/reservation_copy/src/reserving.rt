@@ -14,6 +14,7 @@ use std::alloc::{AllocError, Global};
 
 /// What is reserved in the pages, by page and then by hart: a page has a slot for each hart that there can be. It looks at those pages alone in
 /// whose block of 64 a hart may have something.
+#[tactic(auto, using(crate::proofs::Listed::all_listed))]
 pub fn reservations_of(alloc: Global, pages: &PageSet) -> Result<Items<Reservation>, AllocError>
     requires { length pages.now.pages ≤ 2 ^ 28 }
     ensures { IfOk result (λ items. items ≡ reservations_from 0 (flat_of pages.now.pages).reserved) }

@@ -15,7 +15,7 @@ use Rattle.file_format.proofs.Fitting.{every, fits16, fits32, fits64, fits_bytes
 use Rattle.snap_harts.specs.HartStates.{hart_state}
 use Rattle.snap_harts.proofs.Fits.{state_fits}
 use Rattle.snap_state.specs.declared.copy.Reservation.{Reservation}
-use Rattle.snap_state.specs.declared.copy.Section.TheVariants as sections
+use Rattle.snap_state.specs.declared.sections.Section.TheVariants as sections
 use Rattle.snap_state.specs.Boards.{board}
 use Rattle.snap_state.specs.Copies.{entropy, reservation, section}
 use Rattle.snap_state.specs.Copy.{saved_board}

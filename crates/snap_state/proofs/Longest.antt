@@ -33,8 +33,8 @@ use Rattle.snap_state.specs.declared.board.SavedBoard.{SavedBoard}
 use Rattle.snap_state.specs.declared.configuration.BootSource.{BootSource}
 use Rattle.snap_state.specs.declared.configuration.Configuration.{Configuration}
 use Rattle.snap_state.specs.declared.copy.Reservation.{Reservation}
-use Rattle.snap_state.specs.declared.copy.Section.{Section}
-use Rattle.snap_state.specs.declared.copy.Section.TheVariants as section
+use Rattle.snap_state.specs.declared.sections.Section.{Section}
+use Rattle.snap_state.specs.declared.sections.Section.TheVariants as section
 use Rattle.snap_state.specs.declared.copy.StateCopy.{StateCopy}
 use Rattle.snap_state.specs.Boards.{board}
 use Rattle.snap_state.specs.Configured as kept

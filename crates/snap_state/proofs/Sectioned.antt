@@ -8,8 +8,8 @@ use Rattle.std.proofs.lemmas.List.{length-map}
 use Rattle.std.proofs.lemmas.Slice.Eq.{bytes_eq-Decides}
 use Rattle.api_calls.specs.declared.entropy.Entropy.{Entropy}
 use Rattle.port_table.specs.declared.state.PortState.{PortState}
-use Rattle.snap_state.specs.declared.copy.Section.{Section}
-use Rattle.snap_state.specs.declared.copy.Section.TheVariants as section
+use Rattle.snap_state.specs.declared.sections.Section.{Section}
+use Rattle.snap_state.specs.declared.sections.Section.TheVariants as section
 use Rattle.snap_state.specs.Sections.{are_configured, are_sections, configured, entropy_in, is_offering, offering_byte, offering_bytes, sections_of}
 
 -- ---- of an entropy device

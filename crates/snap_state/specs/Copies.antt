@@ -20,8 +20,8 @@ use Rattle.snap_state.specs.declared.board.SavedBoard.{SavedBoard}
 use Rattle.snap_harts.specs.declared.hart.SavedHart.{SavedHart}
 use Rattle.snap_harts.specs.Harts.{hart}
 use Rattle.snap_state.specs.declared.copy.Reservation.{Reservation}
-use Rattle.snap_state.specs.declared.copy.Section.{Section}
-use Rattle.snap_state.specs.declared.copy.Section.TheVariants as sections
+use Rattle.snap_state.specs.declared.sections.Section.{Section}
+use Rattle.snap_state.specs.declared.sections.Section.TheVariants as sections
 use Rattle.snap_state.specs.declared.copy.StateCopy.{StateCopy}
 
 -- what one hart has reserved in one page

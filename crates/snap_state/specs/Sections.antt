@@ -8,8 +8,8 @@ use Rattle.api_calls.specs.declared.entropy.Entropy.{Entropy}
 use Rattle.port_table.specs.declared.state.PortState.{PortState}
 use Rattle.port_table.specs.Ports.{queue_features}
 use Rattle.port_table.specs.Registers.{has_bits}
-use Rattle.snap_state.specs.declared.copy.Section.{Section}
-use Rattle.snap_state.specs.declared.copy.Section.TheVariants as section
+use Rattle.snap_state.specs.declared.sections.Section.{Section}
+use Rattle.snap_state.specs.declared.sections.Section.TheVariants as section
 
 -- ---- what is offered
 

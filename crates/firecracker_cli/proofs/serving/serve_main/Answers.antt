@@ -15,7 +15,7 @@ returns g c =
     let before : ServeKnown = serve_known_of g.T.Trace.known g.K.Sink.known g.C.Clock.known g.D.Disk.known g.L.Link.known g.V.VsockHost.known g.G.GuestWords.known g.F.Files.known g.W.Words.known
     g.M.Listener.known c.args.sink.now c.args.files.now c.args.with.now in
     let mid : Hosts = hosts (known (g.T.Trace.known with.turns.trace) (g.K.Sink.known c.run_serve-exit.new.sink)
-    (host_known g.C.Clock.known g.D.Disk.known g.L.Link.known g.V.VsockHost.known with.turns.host)) (g.F.Files.known c.run_serve-exit.new.files) in
+    (host_known g.C.Clock.known g.D.Disk.known g.L.Link.known g.V.VsockHost.known g.G.GuestWords.known with.turns.host)) (g.F.Files.known c.run_serve-exit.new.files) in
     serves c.run_serve-exit.result (words_said c.args.words) before mid (g.W.Words.known with.words) (g.M.Listener.known with.listener)
     (g.K.Sink.known c.write_last.new.sink) c.write_last.result ran.so_far ran.told ran.lasts wrote.takes
     (λ is. ap g.K.Sink.known (wrote.quiet is)) wrote.called

@@ -69,7 +69,7 @@ returns-clause-so_far g c = λ tells new.
     let drawn : ServeKnown = serve_known (hosts (known (g.T.Trace.known c.draw_lineage.new.trace) before.hosts.slices.sink before.hosts.slices.host)
     before.hosts.files) (g.W.Words.known c.draw_lineage.new.words) (g.M.Listener.known c.open.new.listener) in
     let now : Hosts = hosts (known (g.T.Trace.known c.serve-served.new.with.trace) (g.K.Sink.known c.serve-served.new.sink)
-    (host_known g.C.Clock.known g.D.Disk.known g.L.Link.known g.V.VsockHost.known c.serve-served.new.with.host)) (g.F.Files.known c.serve-served.new.files) in
+    (host_known g.C.Clock.known g.D.Disk.known g.L.Link.known g.V.VsockHost.known g.G.GuestWords.known c.serve-served.new.with.host)) (g.F.Files.known c.serve-served.new.files) in
     let served : ServeKnown = serve_known now drawn.words (g.M.Listener.known c.serve-served.new.listener) in
     let given : ServeWords = words_said c.args.words in
     let still = c.open.ensures.trace_lasts.still tells.hosts.trace in
@@ -111,7 +111,7 @@ returns-clause-told g c =
     let drawn : ServeKnown = serve_known (hosts (known (g.T.Trace.known c.draw_lineage.new.trace) before.hosts.slices.sink before.hosts.slices.host)
     before.hosts.files) (g.W.Words.known c.draw_lineage.new.words) (g.M.Listener.known c.open.new.listener) in
     let now : Hosts = hosts (known (g.T.Trace.known c.serve-served.new.with.trace) (g.K.Sink.known c.serve-served.new.sink)
-    (host_known g.C.Clock.known g.D.Disk.known g.L.Link.known g.V.VsockHost.known c.serve-served.new.with.host)) (g.F.Files.known c.serve-served.new.files) in
+    (host_known g.C.Clock.known g.D.Disk.known g.L.Link.known g.V.VsockHost.known g.G.GuestWords.known c.serve-served.new.with.host)) (g.F.Files.known c.serve-served.new.files) in
     let served : ServeKnown = serve_known now drawn.words (g.M.Listener.known c.serve-served.new.listener) in
     let last : ServeKnown = serve_known (hosts (known (g.T.Trace.known c.close.new.trace) (g.K.Sink.known c.close.new.sink) now.slices.host)
     now.files) drawn.words served.listener in

@@ -9,7 +9,7 @@ returns-clause-serve g c = rw c.in-Ok.is (λ it is.
     let before : ServeKnown = serve_known_of g.T.Trace.known g.O.Sink.known g.C.Clock.known g.D.Disk.known g.L.Link.known g.V.VsockHost.known g.G.GuestWords.known g.F.Files.known g.W.Words.known
     g.M.Listener.known c.args.out.now.sink c.args.out.now.files c.args.with.now in
     let refused = c.refuse_words in
-    subst (λ (f : g.row.F.Denot). Serves refused.result it before (serve_known_of g.T.Trace.known g.O.Sink.known g.C.Clock.known g.D.Disk.known g.L.Link.known g.V.VsockHost.known
+    subst (λ (f : g.row.F.Denot). Serves refused.result it before (serve_known_of g.T.Trace.known g.O.Sink.known g.C.Clock.known g.D.Disk.known g.L.Link.known g.V.VsockHost.known g.G.GuestWords.known
     g.F.Files.known g.W.Words.known g.M.Listener.known refused.new.out.sink f c.args.with.now)) (sym refused.ensures.unread.1)
     (refused_serve (map string_bytes c.in-Ok.words.items) before (g.O.Sink.known refused.new.out.sink) it is c.in-Err-monitor_command.why
     refused.result refused.ensures.ends

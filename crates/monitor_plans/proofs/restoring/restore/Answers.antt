@@ -1,4 +1,4 @@
-use Rattle.std.proofs.Common.{◌∙◌, ap, refl}
+use Rattle.std.proofs.Common.{◌∙◌, refl}
 use Rattle.flat_machine.proofs.Taken.{carried_taken}
 use Rattle.flat_snapshot.specs.Carried.{carried_config}
 use Rattle.snap_restore.specs.Finding.{snapshot_of}
