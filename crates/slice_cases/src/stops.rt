@@ -4,7 +4,7 @@ ghost use Rattle.std.specs.Prelude.{◌≡◌, All};
 use crate::gates::pass_of;
 use crate::worlds::{clock, two_drives, two_harts};
 use pause_gate::{FlagGate, Pass};
-use slice_runner::{Slice, Stop, run_slice};
+use slice_runner::{Devices, NoObjects, Slice, Stop, run_slice};
 use std::io;
 use std::sync::Wait;
 use std::thread::Threads;
@@ -121,7 +121,17 @@ fn slice_of<R: Threads + Wait + AllocGlobal + Sync>(
     if world.hart_count() > 32 || passes.len() <= world.hart_count() {
         return None;
     }
-    match run_slice(rt, rt.alloc(), world, &mut clock(), gate, passes, 20_000) {
+    match run_slice(
+        rt,
+        rt.alloc(),
+        world,
+        &mut clock(),
+        &mut NoObjects,
+        Devices::Rest,
+        gate,
+        passes,
+        20_000,
+    ) {
         Ok(slice) => Some(slice),
         Err(_) => None,
     }
