@@ -69,6 +69,15 @@ pub is_there : (harts devices k : ℕ) → k < harts + (devices + 1) → IsThere
 is_there harts devices zero lt = tt
 is_there harts devices (suc k) lt = there_by harts devices k (nat_lt k harts) refl (omega (arith, lt))
 
+-- a place that is not this one is one of the next ones
+later : (harts k n : ℕ) (a : ActorId) → same_actor (actor_of harts k) a ≡ false
+    → ((i : ℕ) → suc k ≤ i → i < n → same_actor (actor_of harts i) a ≡ false)
+    → (j : ℕ) → k ≤ j → j < n → (b : Bool) → (k == j) ≡ b → same_actor (actor_of harts j) a ≡ false
+later harts k n a here rest j from to true same =
+    let e : k ≡ j = eqb-true k j same in subst (λ (m : ℕ). same_actor (actor_of harts m) a ≡ false) e here
+later harts k n a here rest j from to false away =
+    let ne = eqb-false k j away in rest j (omega (arith, from, ne)) to
+
 -- ---- all actors, from the one at place k on, that came from these states to those
 
 abbrev pub Crew : {Q : Type 0} → Layout → (ActorId → ActorState) → (ActorId → ActorState) → ℕ → ℕ → List (Track Q) → Type 0
@@ -104,31 +113,26 @@ module _ {Q : Type 0} (layout : Layout) (start lasts : ActorId → ActorState) (
       by_test true here there = here
       by_test false here there = there
 
-  -- a place that is not this one is one of the next ones
-  later : (k n : ℕ) (a : ActorId) → same_actor (actor_of harts k) a ≡ false
-      → ((i : ℕ) → suc k ≤ i → i < n → same_actor (actor_of harts i) a ≡ false)
-      → (j : ℕ) → k ≤ j → j < n → (b : Bool) → (k == j) ≡ b → same_actor (actor_of harts j) a ≡ false
-  later k n a here rest j from to true same =
-      let e : k ≡ j = eqb-true k j same in subst (λ (m : ℕ). same_actor (actor_of harts m) a ≡ false) e here
-  later k n a here rest j from to false away =
-      let ne = eqb-false k j away in rest j (omega (arith, from, ne)) to
+  own_follows : (k : ℕ) (t : Track Q) (a : ActorId) → (t.work.actor ≡ actor_of harts k)
+      → HasRun actor_wants actor_next layout (actor_of harts k) (start (actor_of harts k)) t.work.journal.items (lasts (actor_of harts k)) t.work.clock
+      → (rest : List Entry) → (b : Bool) → same_actor t.work.actor a ≡ b
+      → (same_actor t.work.actor a ≡ false → Follows actor_wants actor_next (start a) rest (lasts a))
+      → Follows actor_wants actor_next (start a) (cond b t.work.journal.items rest) (lasts a)
+  own_follows k t a id run rest true is other =
+      let own : actor_of harts k ≡ a = same_actor-eq (actor_of harts k) a (sym (same_as t k a id) ∙ is) in
+      subst (λ (b : ActorId). Follows actor_wants actor_next (start b) t.work.journal.items (lasts b)) own run.follows
+  own_follows k t a id run rest false is other = other is
 
   -- an actor follows its wants, or there is none such and it stays as it is
   follow_by : (k : ℕ) (ts : List (Track Q)) (a : ActorId) → Crew layout start lasts harts k ts
       → (((j : ℕ) → k ≤ j → j < k + length ts → same_actor (actor_of harts j) a ≡ false) → start a ≡ lasts a)
       → Follows actor_wants actor_next (start a) (journal_at a (track_journals ts)) (lasts a)
   follow_by k [] a crew none = none (λ j from to. absurd (omega (arith, from, to)))
-  follow_by k (t ∷ ts) a crew none = by_test (same_actor t.work.actor a) refl
-    where
-      by_test : (b : Bool) → same_actor t.work.actor a ≡ b
-          → Follows actor_wants actor_next (start a) (cond b t.work.journal.items (journal_at a (track_journals ts))) (lasts a)
-      by_test true is =
-          let own : actor_of harts k ≡ a = same_actor-eq (actor_of harts k) a (sym (same_as t k a crew.0) ∙ is) in
-          subst (λ (b : ActorId). Follows actor_wants actor_next (start b) t.work.journal.items (lasts b)) own crew.1.follows
-      by_test false is =
-          let e : k + length (t ∷ ts) ≡ suc k + length ts = omega arith in
-          follow_by (suc k) ts a crew.2
-          (λ rest. none (λ j from to. later k (suc k + length ts) a (sym (same_as t k a crew.0) ∙ is) rest j from (subst (λ (n : ℕ). j < n) e to) (k == j) refl))
+  follow_by k (t ∷ ts) a crew none =
+      let e : k + length (t ∷ ts) ≡ suc k + length ts = omega arith in
+      own_follows k t a crew.0 crew.1 (journal_at a (track_journals ts)) (same_actor t.work.actor a) refl
+      (λ is. follow_by (suc k) ts a crew.2
+      (λ rest. none (λ j from to. later harts k (suc k + length ts) a (sym (same_as t k a crew.0) ∙ is) rest j from (subst (λ (n : ℕ). j < n) e to) (k == j) refl)))
 
   -- ids that differ
   others : (k n : ℕ) (ts : List (Track Q)) → Crew layout start lasts harts k ts → n < k

@@ -45,13 +45,13 @@ take_all [] (suc i) is = refl
 take_all (x ∷ xs) zero is = absurd (omega (arith, is))
 take_all (x ∷ xs) (suc i) is = ap (λ l. x ∷ l) (take_all xs i (omega (arith, is)))
 
+at_by : {A : Type 0} (P : A → Type 0) (xs : List A) (i : ℕ) (d : A) → i < length xs → AllByRecursion P xs → P (get_or xs i d)
+at_by P [] i d lt h = absurd (omega (arith, lt))
+at_by P (x ∷ xs) zero d lt h = h.0
+at_by P (x ∷ xs) (suc i) d lt h = at_by P xs i d (omega (arith, lt)) h.1
+
 pub all_at : {A : Type 0} (P : A → Type 0) (xs : List A) (i : ℕ) (d : A) → i < length xs → All P xs → P (get_or xs i d)
-all_at P xs i d lt h = by_list xs i d lt (recursion_from_All P xs h)
-  where
-    by_list : (ys : List _) (k : ℕ) (e : _) → k < length ys → AllByRecursion P ys → P (get_or ys k e)
-    by_list [] k e lt h = absurd (omega (arith, lt))
-    by_list (y ∷ ys) zero e lt h = h.0
-    by_list (y ∷ ys) (suc k) e lt h = by_list ys k e (omega (arith, lt)) h.1
+all_at P xs i d lt h = at_by P xs i d lt (recursion_from_All P xs h)
 
 module _ {Q K : Type 0} (serves : Q → Type 0) (tally : Q → Tally) (Answers : ℕ → OutOp → Reply → K → K → Type 0) (places : Places) (n : ℕ) where
   one_more : (known mid left : K) (xs ys : List (DeviceWorker Q)) (w v : DeviceWorker Q)

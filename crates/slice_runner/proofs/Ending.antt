@@ -211,15 +211,17 @@ module _ {Q : Type 0} (serves : Q → Type 0) (tally : Q → Tally) (places : Pl
       )
 
 -- what stands at a device's number
+left_here : {Q : Type 0} (ds : List (DeviceWorker Q)) (resting : List Device) (j : ℕ) (d : DeviceWorker Q) → slice_get ds j ≡ Some d
+    → slice_get (devices_left (devices_of ds ++ resting)) j ≡ Some (device_left d.device)
+left_here [] resting j d is = cc
+left_here (x ∷ ds) resting zero d is =
+    let same : x ≡ d = cc in ap (λ (z : DeviceWorker _). Some (device_left z.device)) same
+left_here (x ∷ ds) resting (suc j) d is = left_here ds resting j d is
+
 left_at : {Q : Type 0} (ds : List (DeviceWorker Q)) (resting : List Device) (j : ℕ) (d : DeviceWorker Q) → slice_get ds j ≡ Some d
     → slice_get (devices_left (devices_of ds ++ resting)) (0 + j) ≡ Some (device_left d.device)
-left_at ds resting j d is = let e : 0 + j ≡ j = omega arith in ap (slice_get (devices_left (devices_of ds ++ resting))) e ∙ by_list ds j d is
-  where
-    by_list : (xs : List (DeviceWorker _)) (i : ℕ) (x : DeviceWorker _) → slice_get xs i ≡ Some x
-        → slice_get (devices_left (devices_of xs ++ resting)) i ≡ Some (device_left x.device)
-    by_list [] i x at = cc
-    by_list (y ∷ xs) zero x at = let same : y ≡ x = cc in ap (λ (z : DeviceWorker _). Some (device_left z.device)) same
-    by_list (y ∷ xs) (suc i) x at = by_list xs i x at
+left_at ds resting j d is =
+    let e : 0 + j ≡ j = omega arith in ap (slice_get (devices_left (devices_of ds ++ resting))) e ∙ left_here ds resting j d is
 
 module _ {Q K : Type 0} (serves : Q → Type 0) (tally : Q → Tally) (Answers : ℕ → OutOp → Reply → K → K → Type 0) (places : Places) (n : ℕ)
     (asked now : ClockKnown) (known left : K) (t u : TimerWorker Q) (ws vs : List (HartWorker Q)) (ds es : List (DeviceWorker Q))

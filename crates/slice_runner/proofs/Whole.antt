@@ -136,7 +136,7 @@ there_more harts devices more ActorId.Timer few there = tt
 there_more harts devices more (ActorId.Hart k) few there = there
 there_more harts devices more (ActorId.Device k) few there = let lt : k < more = omega (arith, few, there) in lt
 
-devices_long : {Q K : Type 0} (serves : Q → Type 0) (tally : Q → Tally) (Answers : ℕ → OutOp → Reply → K → K → Type 0) (places : Places) (n : ℕ)
+pub devices_long : {Q K : Type 0} (serves : Q → Type 0) (tally : Q → Tally) (Answers : ℕ → OutOp → Reply → K → K → Type 0) (places : Places) (n : ℕ)
     (known left : K) (ds es : List (DeviceWorker Q)) → DevicesWorked serves tally Answers places n known left ds es → length es ≡ length ds
 devices_long serves tally Answers places n known left [] [] worked = refl
 devices_long serves tally Answers places n known left [] (e ∷ es) worked = absurd worked

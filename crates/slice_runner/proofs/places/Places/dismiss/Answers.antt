@@ -10,12 +10,12 @@ use Rattle.slice_runner.proofs.Seats.{bare_noted}
 use Rattle.slice_runner.proofs.Staff.{fewer_by_one, first_of, poured}
 use Rattle.slice_runner.proofs.places.Places.dismiss.Goals as goal
 
-pub stand_down-requires-in-Some-clause-seated : goal.stand_down-requires-in-Some-clause-seated
-stand_down-requires-in-Some-clause-seated g c =
+pub stand_down-requires-clause-seated : goal.stand_down-requires-clause-seated
+stand_down-requires-clause-seated g c =
     (first_of (λ t. IsSeatedIn c.args.self.now c.args.seat.now.me.0.round t.work) _ _ _ c.in-Some.ensures.items c.loop-track.invariant.seated).0.seat
 
-pub stand_down-requires-in-Some-clause-noted : goal.stand_down-requires-in-Some-clause-noted
-stand_down-requires-in-Some-clause-noted g c =
+pub stand_down-requires-clause-noted : goal.stand_down-requires-clause-noted
+stand_down-requires-clause-noted g c =
     let h = c.loop-track.invariant in
     let one = (first_of (λ t. IsSeatedIn c.args.self.now c.args.seat.now.me.0.round t.work) _ _ _ c.in-Some.ensures.items h.seated).0 in
     subst (λ r. HasNoted r (index_among c.args.self.now.layout) c.loop-track.seat.me.0 (all_of (journals_of c.loop-track.home.journals.items))) (sym one.round_is) h.noted
@@ -47,8 +47,8 @@ loop-track-preserved g c =
     let l = c.loop-track in
     let items = c.in-Some.ensures.items in
     let track = c.in-Some.track in
-    let sd = c.stand_down-in-Some.ensures in
-    let new = c.stand_down-in-Some.new in
+    let sd = c.stand_down.ensures in
+    let new = c.stand_down.new in
     let ys = into_iter_items l.rest in
     let rest = into_iter_items c.next.new.self in
     let seated = first_of (λ t. IsSeatedIn c.args.self.now c.args.seat.now.me.0.round t.work) _ _ _ items h.seated in

@@ -7,12 +7,12 @@ use Rattle.slice_runner.specs.Staff.{AreNumbered, passes_of}
 use Rattle.slice_runner.proofs.Staff.{all_but_last, all_over, begin_more, begins_with, fewer_by_one, last_one, moved, none_left, numbered_more}
 use Rattle.slice_runner.proofs.places.Places.hire.Goals as goal
 
-pub track_of-track-requires-in-Some-clause-journal : goal.track_of-track-requires-in-Some-clause-journal
-track_of-track-requires-in-Some-clause-journal g c =
+pub track_of-track-requires-clause-journal : goal.track_of-track-requires-clause-journal
+track_of-track-requires-clause-journal g c =
     last_one (λ journal. journal.items ≡ []) _ _ _ c.take_last-journal.ensures c.loop-number.invariant.blank
 
-pub track_of-track-requires-in-Some-clause-parts : goal.track_of-track-requires-in-Some-clause-parts
-track_of-track-requires-in-Some-clause-parts g c =
+pub track_of-track-requires-clause-parts : goal.track_of-track-requires-clause-parts
+track_of-track-requires-clause-parts g c =
     omega (arith, c.loop-number.invariant.parts, c.requires.parts, c.loop-number-test.true)
 
 pub loop-number-init : goal.loop-number-init

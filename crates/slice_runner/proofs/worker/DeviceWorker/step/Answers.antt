@@ -4,10 +4,14 @@ use Rattle.guest_devices.specs.Kept.{device_left}
 use Rattle.turn_work.specs.declared.worker.Worker.{Worker}
 use Rattle.machine_places.specs.declared.place.MachinePlace.{MachinePlace}
 use Rattle.slice_runner.specs.Seats.{IsSeated}
-use Rattle.slice_runner.proofs.Asked.{answered}
+use Rattle.slice_runner.proofs.Asked.{answered, given_fits}
 use Rattle.slice_runner.proofs.Seats.{seated_after, seated_same}
 use Rattle.slice_runner.proofs.Working.{went}
 use Rattle.slice_runner.proofs.worker.DeviceWorker.step.Goals as goal
+
+pub act-entry-requires-clause-given : goal.act-entry-requires-clause-given
+act-entry-requires-clause-given g c =
+    given_fits g.O.DeviceObjects.Answers c.args.self.now.number c.want-op.result _ _ c.ask_object-given.result c.ask_object-given.ensures
 
 pub act-entry-requires-clause-seat : goal.act-entry-requires-clause-seat
 act-entry-requires-clause-seat g c =
