@@ -1,4 +1,4 @@
-use Rattle.std.proofs.Common.{◌≡◌, ◌<◌, ◌+◌, suc, ℕ, List, get_or, length, slice_set, arith, refl, sym, ◌∙◌, subst}
+use Rattle.std.proofs.Common.{◌≡◌, ◌<◌, ◌+◌, suc, ℕ, get_or, length, slice_set, arith, refl, sym, ◌∙◌, subst}
 use Rattle.std.proofs.lemmas.List.{length-set}
 use Rattle.slice_runner.specs.declared.worker.DeviceWorker.{DeviceWorker}
 use Rattle.slice_runner.specs.Ends.{DeviceEnds, IsReady}

@@ -2,7 +2,7 @@ use Rattle.std.proofs.Common.{ap, arith, length, ◌∙◌}
 use Rattle.stamp_merge.specs.declared.layout.Layout.{Layout}
 use Rattle.slice_runner.specs.Opened.{world_of}
 use Rattle.slice_runner.specs.Slices.{acting_of}
-use Rattle.slice_runner.proofs.Around.{acting_around, answered_around, back_around, harts_around, marks_around, put_and_given, room_around, serial_around, stopped_around, there_around}
+use Rattle.slice_runner.proofs.Around.{answered_around, back_around, marks_around, put_and_given, room_around, serial_around, stopped_around, there_around}
 use Rattle.slice_runner.proofs.slice.run_slice.Goals as goal
 
 pub share-requires-clause-room : goal.share-requires-clause-room

@@ -1,4 +1,4 @@
-use Rattle.std.proofs.Common.{◌≡◌, [], length, arith, sym, ap, ◌∙◌, ◌++◌, ◌∷◌, vec_len, vec_capacity}
+use Rattle.std.proofs.Common.{length, arith, sym, ap, ◌∙◌, ◌++◌, vec_len, vec_capacity}
 use Rattle.std.specs.Vec.Iter.{into_iter_items}
 use Rattle.slice_runner.specs.Staff.{device_tracks, devices_of, hart_tracks, harts_of}
 use Rattle.slice_runner.proofs.Staff.{all_over, none_left}

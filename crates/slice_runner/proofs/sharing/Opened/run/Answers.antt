@@ -9,7 +9,7 @@ use Rattle.vm_world.specs.Worlds.{world_with}
 use Rattle.slice_runner.specs.Blanks.{pool_of}
 use Rattle.slice_runner.specs.Room.{ForWork, IsHome}
 use Rattle.slice_runner.specs.Slices.{IsSlice, acting_of}
-use Rattle.slice_runner.specs.Staff.{AreBack, AreHired, AreSeated, devices_of, harts_of, tracks_of}
+use Rattle.slice_runner.specs.Staff.{AreBack, AreHired, AreSeated, tracks_of}
 use Rattle.slice_runner.proofs.Ending.{long_map}
 use Rattle.slice_runner.proofs.Joined.{after_long, after_seated, all_bound, all_many, all_served, as_many, devices_ready, harts_ready, left_served, timer_ready, tracks_long}
 use Rattle.slice_runner.proofs.Shared.{done, left}
