@@ -111,9 +111,9 @@ pub ports_other : (es : List Entry) → AllByRecursion (λ (e : Entry). IsOther 
 ports_other [] others = tt
 ports_other (e ∷ es) others = (other_port e.actor e.op e.reply others.0, ports_other es others.1)
 
-pub ports_there : (harts : ℕ) (es : List Entry) → All (λ (e : Entry). IsThere harts e.actor) es → HavePorts es
+pub ports_there : (harts : ℕ) (es : List Entry) → All (λ (e : Entry). IsThere harts 0 e.actor) es → HavePorts es
 ports_there harts es there =
-    ports_other es (all_other harts es (recursion_from_All (λ (e : Entry). IsThere harts e.actor) es there))
+    ports_other es (all_other harts es (recursion_from_All (λ (e : Entry). IsThere harts 0 e.actor) es there))
 
 pub ports_turns : (but : Option ℕ) (harts : ℕ) (es : List Entry) → makers es ≡ turns but harts → HavePorts es
 ports_turns but harts es made = ports_other es (others_made but harts es made)

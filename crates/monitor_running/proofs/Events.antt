@@ -1,5 +1,5 @@
 -- What the objects of devices were asked, event by event.
-use Rattle.std.proofs.Common.{◌≡◌, ℕ, zero, suc, Bool, true, false, cond, refl, sym, ap, ◌∙◌, subst, Option, List, [], ◌∷◌, ◌++◌, take, drop, All}
+use Rattle.std.proofs.Common.{arith, ◌≡◌, ℕ, zero, suc, Bool, true, false, cond, refl, sym, ap, ◌∙◌, subst, Option, List, [], ◌∷◌, ◌++◌, take, drop, All}
 use Rattle.std.specs.List.{AllByRecursion}
 use Rattle.std.proofs.lemmas.List.Elements.{recursion_from_All}
 use Rattle.vm_types.specs.Ids.{of_actor, same_actor}
@@ -99,21 +99,21 @@ unasked_by : (es : List Entry) (known : DevicesKnown) → AllByRecursion (λ (e 
 unasked_by [] known others = rests_same known
 unasked_by (e ∷ es) known others = (known, asks_none e.op e.actor e.reply known others.0, unasked_by es known others.1)
 
-other_by : (harts : ℕ) (actor : ActorId) → IsThere harts actor → IsOther actor
+other_by : (harts : ℕ) (actor : ActorId) → IsThere harts 0 actor → IsOther actor
 other_by harts ActorId.Timer there = tt
 other_by harts (ActorId.Hart k) there = tt
-other_by harts (ActorId.Device k) there = there
+other_by harts (ActorId.Device k) there = absurd (omega (arith, there))
 
-pub all_other : (harts : ℕ) (es : List Entry) → AllByRecursion (λ (e : Entry). IsThere harts e.actor) es
+pub all_other : (harts : ℕ) (es : List Entry) → AllByRecursion (λ (e : Entry). IsThere harts 0 e.actor) es
     → AllByRecursion (λ (e : Entry). IsOther e.actor) es
 all_other harts [] there = tt
 all_other harts (e ∷ es) there = (other_by harts e.actor there.0, all_other harts es there.1)
 
 -- those of a slice
-pub unasked_there : (harts : ℕ) (es : List Entry) (known : DevicesKnown) → All (λ (e : Entry). IsThere harts e.actor) es
+pub unasked_there : (harts : ℕ) (es : List Entry) (known : DevicesKnown) → All (λ (e : Entry). IsThere harts 0 e.actor) es
     → WereAsked known es known
 unasked_there harts es known there =
-    unasked_by es known (all_other harts es (recursion_from_All (λ (e : Entry). IsThere harts e.actor) es there))
+    unasked_by es known (all_other harts es (recursion_from_All (λ (e : Entry). IsThere harts 0 e.actor) es there))
 
 -- and those of a wait
 other_append : (xs ys : List ActorId) → AllByRecursion IsOther xs → AllByRecursion IsOther ys → AllByRecursion IsOther (xs ++ ys)

@@ -228,7 +228,7 @@ module _ (s : Start) (m : Machine) (talk : List Out) (took : List Item) (taken :
 
 -- what a slice says of its events
 pub slice_gone : (es : List Entry) (w v : WorldValue) (asked now : HostKnown) → IsSerial w es v
-    → All (λ (e : Entry). IsThere (length w.harts) e.actor) es → ClockWasAsked asked.clock es now.clock → now.devices ≡ asked.devices
+    → All (λ (e : Entry). IsThere (length w.harts) 0 e.actor) es → ClockWasAsked asked.clock es now.clock → now.devices ≡ asked.devices
     → EventsGone es w v asked now
 slice_gone es w v asked now serial there was same g is =
     (serial g is, was, rw same (unasked_there (length w.harts) es asked.devices there), ports_there (length w.harts) es there)

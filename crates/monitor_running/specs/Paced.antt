@@ -35,7 +35,7 @@ pub record WasSliced {Q : Type 0} (tally : Q → Tally) (steps : ℕ) (old : Wor
   pub stops : List Stopped
   pub mid : WorldValue
   pub serial : IsSerial old events mid
-  pub stopped : AreStopped tally (slice_steps steps old) old events mid stops before after
+  pub stopped : AreStopped tally (slice_steps steps old) 0 old events mid stops before after
   pub drained : MayBeDrained mid new
 
 -- How a turn of harts was made, by what steered it before it, and what steers the next one. The pace has how many turns may be made in

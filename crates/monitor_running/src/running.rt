@@ -31,7 +31,7 @@ use guest_memory::HART_LIMIT;
 use monitor_machine::LiveMachine;
 use pause_gate::Gate;
 use port_table::MOST_DEVICES;
-use slice_runner::{Slice, run_slice};
+use slice_runner::{Devices, NoObjects, Slice, run_slice};
 use std::alloc::{AllocError, Global};
 use std::sync::Wait;
 use std::thread::Threads;
@@ -67,7 +67,7 @@ fn steps_each(world: &World, steps: u32) -> u32
     steps.min(MOST_STEPS / actors)
 }
 
-// A slice, for which the clock is lent.
+// A slice in which the devices rest, for which the clock is lent.
 fn slice_by<Q: Send + Drop, W: TurnObjects, G: Gate<Pass = Q> + Sync, R: Threads + Wait + Sync>(
     rt: &R,
     alloc: Global,
@@ -81,9 +81,9 @@ fn slice_by<Q: Send + Drop, W: TurnObjects, G: Gate<Pass = Q> + Sync, R: Threads
     requires passes { length world.old.harts + 1 ≤ length passes.old.items }
     requires serve { All (G.serves gate.now) passes.old.items }
     ensures serial { IfOk result (λ slice. IsSerial world.old slice.events.items world.new) }
-    ensures actors { IfOk result (λ slice. All (λ e. IsThere (length world.old.harts) e.actor) slice.events.items) }
+    ensures actors { IfOk result (λ slice. All (λ e. IsThere (length world.old.harts) 0 e.actor) slice.events.items) }
     ensures stops { IfOk result (λ slice.
-        AreStopped G.tally steps world.old slice.events.items world.new slice.stops.items passes.old.items passes.new.items) }
+        AreStopped G.tally steps 0 world.old slice.events.items world.new slice.stops.items passes.old.items passes.new.items) }
     ensures clock { IfOk result (λ slice.
         ClockWasAsked (W.known with.old).host.clock slice.events.items (W.known with.new).host.clock) }
     ensures failed { OnErr result (IsSameButSpare world.old world.new
@@ -92,7 +92,18 @@ fn slice_by<Q: Send + Drop, W: TurnObjects, G: Gate<Pass = Q> + Sync, R: Threads
     ensures same { length passes.new.items ≡ length passes.old.items }
     ensures beside { W.known with.new ≡ with_clock (W.known with.old) (W.known with.new).host.clock }
 {
-    run_slice(rt, alloc, world, with.clock(), gate, passes, steps)
+    let mut none = NoObjects;
+    run_slice(
+        rt,
+        alloc,
+        world,
+        with.clock(),
+        &mut none,
+        Devices::Rest,
+        gate,
+        passes,
+        steps,
+    )
 }
 
 // One slice of a guest, its events and a drain.

@@ -3,7 +3,7 @@ ghost use Rattle.std.specs.Prelude.{◌≡◌, All};
 
 use crate::worlds::{clock, replays, two_harts, word_at};
 use pause_gate::{FlagGate, Pass};
-use slice_runner::{Slice, run_slice};
+use slice_runner::{Devices, NoObjects, Slice, run_slice};
 use std::io;
 use std::sync::Wait;
 use std::thread::Threads;
@@ -59,7 +59,17 @@ fn run_all<R: Threads + Wait + AllocGlobal + Sync>(
         if world.hart_count() > 32 || passes.len() <= world.hart_count() {
             return counts;
         }
-        if let Ok(slice) = run_slice(rt, rt.alloc(), world, &mut clock, gate, passes, 64) {
+        if let Ok(slice) = run_slice(
+            rt,
+            rt.alloc(),
+            world,
+            &mut clock,
+            &mut NoObjects,
+            Devices::Rest,
+            gate,
+            passes,
+            64,
+        ) {
             count(&mut counts, other, &slice);
         }
     }

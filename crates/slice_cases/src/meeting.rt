@@ -3,7 +3,7 @@ ghost use Rattle.std.specs.Prelude.{◌≡◌, All};
 
 use crate::worlds::{clock, two_harts};
 use pause_gate::{FlagGate, HoldGate, Party, Pass};
-use slice_runner::{Stop, run_slice};
+use slice_runner::{Devices, NoObjects, Stop, run_slice};
 use std::io;
 use std::sync::Wait;
 use std::thread::Threads;
@@ -55,7 +55,17 @@ fn stop_of_hart_0<R: Threads + Wait + AllocGlobal + Sync>(
     if world.hart_count() > 32 || passes.len() <= world.hart_count() {
         return None;
     }
-    match run_slice(rt, rt.alloc(), world, &mut clock(), gate, passes, 64) {
+    match run_slice(
+        rt,
+        rt.alloc(),
+        world,
+        &mut clock(),
+        &mut NoObjects,
+        Devices::Rest,
+        gate,
+        passes,
+        64,
+    ) {
         Ok(slice) => Some(slice.stops.get(1)?.stop),
         Err(_) => None,
     }

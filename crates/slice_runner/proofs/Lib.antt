@@ -1,6 +1,9 @@
 pub mod Around
+pub mod Asked
 pub mod Answers
 pub mod Crew
+pub mod Doing
+pub mod Ending
 pub mod Feeding
 pub mod Joined
 pub mod Leading

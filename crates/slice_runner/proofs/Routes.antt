@@ -12,14 +12,14 @@ use Rattle.flat_guest.specs.Given.{Given}
 use Rattle.flat_guest.specs.Given.Given.{Host, Nothing, Short}
 use Rattle.flat_guest.specs.Steps.{is_given}
 use Rattle.guest_memory.specs.Ram.{is_ram, page_size, ram_start}
-use Rattle.slice_runner.specs.Runs.{IsActOf}
+use Rattle.hart_trace.specs.Asks.{is_port_op}
+use Rattle.slice_runner.specs.Runs.{IsActOf, has_port}
 use Rattle.vm_types.specs.declared.op.Op.{Op}
 use Rattle.vm_types.specs.declared.ids.PlaceId.{PlaceId}
 use Rattle.vm_types.specs.Ids.{is_out, same_place}
 use Rattle.guest_memory.specs.Route.{access_place, page_of}
 use Rattle.guest_memory.specs.Words.{width_of}
 use Rattle.guest_pages.proofs.Here.{here}
-use Rattle.hart_trace.specs.Asks.{is_port_op}
 use Rattle.flat_guest.specs.Places.{is_register_access, place_by, port_accessed, port_place}
 use Rattle.stamp_merge.specs.declared.layout.Layout.{Layout}
 use Rattle.stamp_merge.proofs.Serial.{same_place-eq}
@@ -118,14 +118,16 @@ laid_out layout op PlaceId.Board is inner = refl
 laid_out layout op PlaceId.Out is inner = cc
 
 -- with no place the reply is what the machine allows
-none_fits : (layout : Layout) (op : Op) → route_among layout op ≡ PlaceId.Out → is_port_op op ≡ false → is_given op Nothing ≡ true
+none_fits : (layout : Layout) (op : Op) → route_among layout op ≡ PlaceId.Out → has_port layout op ≡ true → is_given op Nothing ≡ true
     → OutFits op (out_reply op Nothing)
 none_fits layout (Op.Read at len) is own fit = refl
 none_fits layout (Op.Write at piece) is own fit = refl
 none_fits layout (Op.Amo at value kind wide) is own fit = refl
 none_fits layout (Op.Lr at wide) is own fit = refl
 none_fits layout (Op.Sc at value wide) is own fit = refl
-none_fits layout (Op.Port port act) is own fit = cc
+none_fits layout (Op.Port port act) is own fit =
+    let there : port_place layout.ports port ≡ PlaceId.Port port = ap (λ (t : Bool). cond t (PlaceId.Port port) PlaceId.Out) own in
+    let both = sym there ∙ is in cc
 none_fits layout (Op.Board act) is own fit = cc
 none_fits layout (Op.Out act) is own fit = cc
 none_fits layout Op.Idle is own fit = refl
@@ -134,7 +136,7 @@ some_fits : (op : Op) (reply : Reply) → is_given op (Host reply) ≡ true → 
 some_fits (Op.Out act) reply fit = fit
 some_fits op reply fit = cc
 
-out_fits_by : (layout : Layout) (op : Op) (given : Given) → route_among layout op ≡ PlaceId.Out → is_port_op op ≡ false
+out_fits_by : (layout : Layout) (op : Op) (given : Given) → route_among layout op ≡ PlaceId.Out → has_port layout op ≡ true
     → is_given op given ≡ true → OutFits op (out_reply op given)
 out_fits_by layout op Nothing is own fit = none_fits layout op is own fit
 out_fits_by layout op (Host reply) is own fit = some_fits op reply fit
@@ -168,7 +170,7 @@ module _ (layout : Layout) (clock : ℕ) (actor : ActorId) (op : Op) (given : Gi
       at_one place e inner placed (subst (λ (p : PlaceId). IsEntryOf e actor p op clock) (same_place-eq at.0.id place test) at.2)
 
   -- an act with no place
-  pub at_none : (e : Entry) → is_port_op op ≡ false → is_given op given ≡ true → route_among layout op ≡ PlaceId.Out
+  pub at_none : (e : Entry) → has_port layout op ≡ true → is_given op given ≡ true → route_among layout op ≡ PlaceId.Out
       → IsOutEntry e actor op (out_reply op given) clock → IsActOf e actor op given layout clock
   at_none e own fit nowhere is = record {
     actor_is = is.actor_is;
@@ -190,3 +192,8 @@ inside_of (PlaceId.Page i) not = refl
 inside_of (PlaceId.Port k) not = refl
 inside_of PlaceId.Board not = refl
 inside_of PlaceId.Out not = absurd (not refl)
+
+-- an act on no port is on none that isn't there
+pub no_port_op : (layout : Layout) (op : Op) → is_port_op op ≡ false → has_port layout op ≡ true
+no_port_op layout (Op.Port port act) not = cc
+no_port_op layout op not = refl

@@ -2,11 +2,11 @@
 use Rattle.std.proofs.Common.{◌≡◌, ℕ, suc, ◌+◌, refl, sym, ap, ◌∙◌, subst, arith, List, [], ◌∷◌, ◌++◌, length, length-append, map, All}
 use Rattle.std.specs.List.{AllByRecursion}
 use Rattle.std.proofs.lemmas.List.Elements.{All-append, All-from_recursion, recursion_from_All}
-use Rattle.vm_types.specs.declared.ids.ActorId.{ActorId}
-use Rattle.slice_runner.specs.declared.worker.HartWorker.{HartWorker}
+use Rattle.slice_runner.specs.declared.worker.DeviceWorker.{DeviceWorker}
 use Rattle.slice_runner.specs.declared.worker.Track.{Track}
 use Rattle.slice_runner.specs.Runs.{Begins}
-use Rattle.slice_runner.specs.Staff.{AreNumbered}
+use Rattle.slice_runner.specs.Staff.{AreDevices, AreNumbered}
+use Rattle.slice_runner.specs.Stops.{actor_of}
 
 -- one more in the first list is one less in the second
 one_over : {A B : Type 0} (f : A → B) (xs : List A) (x : A) (ys : List B) → map f (xs ++ x ∷ []) ++ ys ≡ map f xs ++ f x ∷ ys
@@ -35,25 +35,37 @@ pub all_over : {A : Type 0} (xs : List A) → xs ++ [] ≡ xs
 all_over [] = refl
 all_over (x ∷ xs) = ap (λ l. x ∷ l) (all_over xs)
 
-numbered_by : {Q : Type 0} (k : ℕ) (ws : List (HartWorker Q)) (w : HartWorker Q) → AreNumbered k ws
-    → w.track.work.actor ≡ ActorId.Hart (k + length ws) → AreNumbered k (ws ++ w ∷ [])
-numbered_by k [] w so_far is = let e : k + 0 ≡ k = omega arith in (is ∙ ap (λ (n : ℕ). ActorId.Hart n) e, tt)
-numbered_by k (v ∷ ws) w so_far is =
-    let e : k + length (v ∷ ws) ≡ suc k + length ws = omega arith in
-    (so_far.0, numbered_by (suc k) ws w so_far.1 (is ∙ ap (λ (n : ℕ). ActorId.Hart n) e))
+numbered_by : {Q : Type 0} (harts k : ℕ) (ts : List (Track Q)) (t : Track Q) → AreNumbered harts k ts
+    → t.work.actor ≡ actor_of harts (k + length ts) → AreNumbered harts k (ts ++ t ∷ [])
+numbered_by harts k [] t so_far is = let e : k + 0 ≡ k = omega arith in (is ∙ ap (actor_of harts) e, tt)
+numbered_by harts k (u ∷ ts) t so_far is =
+    let e : k + length (u ∷ ts) ≡ suc k + length ts = omega arith in
+    (so_far.0, numbered_by harts (suc k) ts t so_far.1 (is ∙ ap (actor_of harts) e))
 
-pub numbered_more : {Q : Type 0} (ws now : List (HartWorker Q)) (w : HartWorker Q) (n : ℕ) → AreNumbered 0 ws → n ≡ length ws
-    → w.track.work.actor ≡ ActorId.Hart n → now ≡ ws ++ w ∷ [] → AreNumbered 0 now
-numbered_more ws now w n so_far long is items =
-    let e : n ≡ 0 + length ws = omega (arith, long) in
-    subst (λ l. AreNumbered 0 l) (sym items) (numbered_by 0 ws w so_far (is ∙ ap (λ (k : ℕ). ActorId.Hart k) e))
+pub numbered_more : {Q : Type 0} (harts : ℕ) (ts now : List (Track Q)) (t : Track Q) (n : ℕ) → AreNumbered harts 0 ts → n ≡ length ts
+    → t.work.actor ≡ actor_of harts n → now ≡ ts ++ t ∷ [] → AreNumbered harts 0 now
+numbered_more harts ts now t n so_far long is items =
+    let e : n ≡ 0 + length ts = omega (arith, long) in
+    subst (λ l. AreNumbered harts 0 l) (sym items) (numbered_by harts 0 ts t so_far (is ∙ ap (actor_of harts) e))
 
-pub begin_more : {Q : Type 0} (n blanks : ℕ) (ws now : List (HartWorker Q)) (w : HartWorker Q)
-    → All (λ (v : HartWorker Q). Begins n blanks v.track) ws → Begins n blanks w.track → now ≡ ws ++ w ∷ []
-    → All (λ (v : HartWorker Q). Begins n blanks v.track) now
-begin_more {Q} n blanks ws now w so_far one items =
-    let P : HartWorker Q → Type 0 = λ v. Begins n blanks v.track in
-    subst (All P) (sym items) (All-append P ws (w ∷ []) so_far (All-from_recursion P (w ∷ []) (one, tt)))
+devices_by : {Q : Type 0} (k : ℕ) (ds : List (DeviceWorker Q)) (d : DeviceWorker Q) → AreDevices k ds
+    → d.number ≡ k + length ds → AreDevices k (ds ++ d ∷ [])
+devices_by k [] d so_far is = let e : k + 0 ≡ k = omega arith in (is ∙ e, tt)
+devices_by k (x ∷ ds) d so_far is =
+    let e : k + length (x ∷ ds) ≡ suc k + length ds = omega arith in (so_far.0, devices_by (suc k) ds d so_far.1 (is ∙ e))
+
+pub devices_more : {Q : Type 0} (ds now : List (DeviceWorker Q)) (d : DeviceWorker Q) → AreDevices 0 ds → d.number ≡ length ds
+    → now ≡ ds ++ d ∷ [] → AreDevices 0 now
+devices_more ds now d so_far is items =
+    let e : length ds ≡ 0 + length ds = omega arith in
+    subst (λ l. AreDevices 0 l) (sym items) (devices_by 0 ds d so_far (is ∙ e))
+
+pub begin_more : {Q : Type 0} (n blanks : ℕ) (ts now : List (Track Q)) (t : Track Q)
+    → All (λ (u : Track Q). Begins n blanks u) ts → Begins n blanks t → now ≡ ts ++ t ∷ []
+    → All (λ (u : Track Q). Begins n blanks u) now
+begin_more {Q} n blanks ts now t so_far one items =
+    let P : Track Q → Type 0 = λ v. Begins n blanks v in
+    subst (All P) (sym items) (All-append P ts (t ∷ []) so_far (All-from_recursion P (t ∷ []) (one, tt)))
 
 -- with as many blanks as its pool has
 pub begins_with : {Q : Type 0} (n blanks : ℕ) (track : Track Q) (own : ℕ) → own ≡ blanks → Begins n own track → Begins n blanks track
@@ -62,6 +74,11 @@ begins_with n blanks track own is begins = subst (λ (k : ℕ). Begins n k track
 -- those that it has
 pub begins_own : {Q : Type 0} (n blanks : ℕ) (track : Track Q) → Begins n blanks track → Begins n (length track.pool.items) track
 begins_own n blanks track begins = record { empty = begins.empty; clock = begins.clock; full = begins.full; room = begins.room; pool = refl }
+
+-- one list behind another, and a third behind both
+pub append_over : {A : Type 0} (xs ys zs : List A) → (xs ++ ys) ++ zs ≡ xs ++ (ys ++ zs)
+append_over [] ys zs = refl
+append_over (x ∷ xs) ys zs = ap (λ l. x ∷ l) (append_over xs ys zs)
 
 pub none_left : {A : Type 0} (xs : List A) → length xs ≡ 0 → xs ≡ []
 none_left [] is = refl

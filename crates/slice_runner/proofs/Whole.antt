@@ -1,7 +1,7 @@
 -- A slice, from what its actors did and what the seat with all parts was told.
-use Rattle.std.proofs.Common.{◌≡◌, ℕ, zero, suc, ◌+◌, ◌<◌, Bool, refl, sym, ap, ◌∙◌, subst, arith}
+use Rattle.std.proofs.Common.{◌≡◌, ℕ, zero, suc, ◌+◌, ◌<◌, ◌≤◌, Bool, false, refl, sym, ap, ◌∙◌, subst, arith}
 use Rattle.std.specs.List.{AllByRecursion}
-use Rattle.std.proofs.Common.{All, List, [], ◌∷◌, ◌++◌, length, map, slice_get, slice_index_or, Some}
+use Rattle.std.proofs.Common.{All, List, [], ◌∷◌, ◌++◌, length, map, slice_get, Some, length-append}
 use Rattle.std.specs.List.Sorted.{IsPermutation}
 use Rattle.std.proofs.lemmas.List.Elements.{All-from_recursion, recursion_from_All}
 use Rattle.std.proofs.lemmas.List.Sorted.{All-permutation, IsPermutation-refl}
@@ -9,16 +9,17 @@ use Rattle.vm_types.specs.declared.entry.Entry.{Entry}
 use Rattle.vm_types.specs.declared.ids.ActorId.{ActorId}
 use Rattle.vm_types.specs.declared.ids.PlaceId.{PlaceId}
 use Rattle.vm_types.specs.declared.op.Op.{Op}
-use Rattle.vm_types.specs.Ids.{of_actor}
+use Rattle.vm_types.specs.declared.op.OutOp.{OutOp}
+use Rattle.vm_types.specs.declared.reply.Reply.{Reply}
+use Rattle.vm_types.specs.Ids.{of_actor, same_actor}
 use Rattle.vm_types.specs.Serial.{OutFits}
 use Rattle.board_table.specs.Board.{Board}
+use Rattle.guest_devices.specs.declared.device.Device.{Device}
+use Rattle.guest_devices.specs.Kept.{device_left, devices_left}
 use Rattle.guest_pages.specs.Made.{made_of}
 use Rattle.guest_pages.specs.Flat.{ArePages}
 use Rattle.guest_pages.specs.Pages.{PageValue}
-use Rattle.hart_trace.specs.States.{Hart, hart_next, hart_wants}
-use Rattle.timer_trace.specs.declared.timer.Timer.{Timer}
-use Rattle.timer_trace.specs.States.{timer_next, timer_wants}
-use Rattle.flat_guest.specs.Body.{want_of}
+use Rattle.hart_trace.specs.States.{Hart}
 use Rattle.pause_gate.specs.Tally.{Tally}
 use Rattle.port_table.specs.declared.state.PortState.{PortState}
 use Rattle.stamp_merge.specs.declared.layout.Layout.{Layout}
@@ -43,73 +44,67 @@ use Rattle.vm_world.specs.Worlds.{WorldValue, want_in, world_with}
 use Rattle.slice_runner.specs.declared.places.Places.{Places}
 use Rattle.slice_runner.specs.declared.stop.Stop.{Stop}
 use Rattle.slice_runner.specs.declared.stop.Stopped.{Stopped}
+use Rattle.slice_runner.specs.declared.worker.DeviceWorker.{DeviceWorker}
 use Rattle.slice_runner.specs.declared.worker.HartWorker.{HartWorker}
 use Rattle.slice_runner.specs.declared.worker.TimerWorker.{TimerWorker}
-use Rattle.slice_runner.specs.Ends.{HartEnds, HartsWorked, TimerEnds}
+use Rattle.slice_runner.specs.declared.worker.Track.{Track}
+use Rattle.slice_runner.specs.Ends.{BesideEnds, DevicesWorked, HartsWorked}
 use Rattle.slice_runner.specs.Blanks.{pool_of}
-use Rattle.slice_runner.specs.Runs.{Begins, HasRun}
-use Rattle.slice_runner.specs.Slices.{IsSerial, IsSlice, IsThere, MarksFollow, answers_of}
-use Rattle.slice_runner.specs.Staff.{AreBack, AreNumbered, AreStaffed, harts_of, passes_of, stop_of, stops_from}
-use Rattle.slice_runner.specs.Stops.{HasCause, IsStopped, timer_most}
-use Rattle.slice_runner.specs.Values.{actor_next, actor_wants, actors_of, layout_in, places_of, route_among}
-use Rattle.slice_runner.proofs.Crew.{Crew, are_followed, are_stamped, are_there, at_other, at_timer, harts_journals, journal_there, journals_are, slice_journals}
-use Rattle.slice_runner.proofs.Leading.{Reaches, reaches, same_world}
+use Rattle.slice_runner.specs.Runs.{AreAnswered, Begins}
+use Rattle.slice_runner.specs.Slices.{DevicesAnswered, IsSerial, IsSlice, IsThere, MarksFollow, answers_of}
+use Rattle.slice_runner.specs.Staff.{AreBack, AreDevices, AreHired, AreNumbered, device_tracks, devices_of, hart_tracks, harts_of, passes_of, stop_of, stops_from, tracks_of}
+use Rattle.slice_runner.specs.Stops.{HasCause, IsStopped, actor_of, most_of}
+use Rattle.slice_runner.specs.Values.{ActorState, actor_among, actor_next, actor_wants, actors_of, layout_in, places_of, route_among}
+use Rattle.slice_runner.proofs.Crew.{Crew, are_followed, are_stamped, are_there, is_there, journal_there, journals_are, track_journals}
+use Rattle.slice_runner.proofs.Ending.{AreEnded, all_ended, begins_at, crew_by, device_id, ends_at, long_map, others_same}
+use Rattle.slice_runner.proofs.Leading.{Reaches, reaches, same_standing}
+use Rattle.slice_runner.proofs.Stepping.{IsStanding, Standing, standing_of, wants_there}
 use Rattle.slice_runner.proofs.Valued.{are_values, as_many}
 
-module _ {Q : Type 0} (serves : Q → Type 0) (tally : Q → Tally) (places : Places) (n : ℕ) where
-  -- each hart, by its number
-  crew_by : (k : ℕ) (ws vs : List (HartWorker Q)) → length vs ≡ length ws → AreNumbered k ws
-      → ((i : ℕ) (d : HartWorker Q) → i < length ws → HartEnds serves tally places n (slice_index_or ws i d) (slice_index_or vs i d))
-      → Crew places.layout k vs (harts_of ws)
-  crew_by k [] [] long ids each = tt
-  crew_by k [] (v ∷ vs) long ids each = absurd (omega (arith, long))
-  crew_by k (w ∷ ws) [] long ids each = absurd (omega (arith, long))
-  crew_by k (w ∷ ws) (v ∷ vs) long ids each =
-      let one : 0 < length (w ∷ ws) = omega arith in
-      let first : HartEnds serves tally places n w v = each 0 w one in (
-        first.worked.same ∙ ids.0,
-        subst (λ (a : ActorId). HasRun hart_wants hart_next places.layout a w.hart v.track.work.journal.items v.hart v.track.work.clock) ids.0 first.worked.ran,
-        crew_by (suc k) ws vs (omega (arith, long)) ids.1
-            (λ i d below. let more : suc i < length (w ∷ ws) = omega (arith, below) in each (suc i) d more),
-      )
+-- ---- each actor's stop, with its cause
 
-  -- its stop, with its cause
-  pub record HartStop (blanks k j : ℕ) (vs : List (HartWorker Q)) (s : Stopped) (p q : Q) : Type 0 where
-    pub worker : HartWorker Q
-    pub is_there : slice_get vs j ≡ Some worker
-    pub actor_is : s.actor ≡ ActorId.Hart (k + j)
-    pub cause : HasCause n blanks places.made.items places.layout s.stop worker.track.work.journal.items (hart_wants worker.hart) (tally p) (tally q)
+module _ {Q : Type 0} (serves : Q → Type 0) (tally : Q → Tally) (places : Places) (n : ℕ) (start lasts : ActorId → ActorState) (harts : ℕ) where
+  pub record TrackStop (blanks k : ℕ) (vs : List (Track Q)) (j : ℕ) (s : Stopped) (p q : Q) : Type 0 where
+    pub track : Track Q
+    pub is_there : slice_get vs j ≡ Some track
+    pub actor_is : s.actor ≡ actor_of harts (k + j)
+    pub cause :
+        HasCause (most_of (k + j) n) blanks places.made.items places.layout s.stop track.work.journal.items
+        (actor_wants (lasts (actor_of harts (k + j)))) (tally p) (tally q)
 
-  stop_by : (left : List Q) (blanks k : ℕ) (ws vs : List (HartWorker Q)) → length vs ≡ length ws → AreNumbered k ws
-      → AllByRecursion (λ (w : HartWorker Q). Begins n blanks w.track) ws
-      → ((i : ℕ) (d : HartWorker Q) → i < length ws → HartEnds serves tally places n (slice_index_or ws i d) (slice_index_or vs i d))
-      → (j : ℕ) (s : Stopped) (p q : Q) → slice_get (map (λ (v : HartWorker Q). stop_of v.track) vs) j ≡ Some s
-      → slice_get (passes_of ws ++ left) j ≡ Some p → slice_get (passes_of vs ++ left) j ≡ Some q → HartStop blanks k j vs s p q
-  stop_by left blanks k [] [] long ids begin each j s p q stop before after = cc
-  stop_by left blanks k [] (v ∷ vs) long ids begin each j s p q stop before after = absurd (omega (arith, long))
-  stop_by left blanks k (w ∷ ws) [] long ids begin each j s p q stop before after = absurd (omega (arith, long))
-  stop_by left blanks k (w ∷ ws) (v ∷ vs) long ids begin each zero s p q stop before after =
-      let one : 0 < length (w ∷ ws) = omega arith in
-      let first : HartEnds serves tally places n w v = each 0 w one in
-      let s_is : stop_of v.track ≡ s = cc in
-      let p_is : w.track.pass ≡ p = cc in
-      let q_is : v.track.pass ≡ q = cc in
+  abbrev cause_at : ℕ → ℕ → Track Q → Stop → Q → Q → Type 0
+  cause_at k blanks v stop p q =
+      HasCause (most_of k n) blanks places.made.items places.layout stop v.work.journal.items (actor_wants (lasts (actor_of harts k))) (tally p) (tally q)
+
+  stop_by : (left : List Q) (blanks k : ℕ) (ws vs : List (Track Q)) → AreNumbered harts k ws
+      → AllByRecursion (λ (t : Track Q). Begins n blanks t) ws → AreEnded serves tally places n start lasts harts k ws vs
+      → (j : ℕ) (s : Stopped) (p q : Q) → slice_get (stops_from vs) j ≡ Some s
+      → slice_get (passes_of ws ++ left) j ≡ Some p → slice_get (passes_of vs ++ left) j ≡ Some q → TrackStop blanks k vs j s p q
+  stop_by left blanks k [] [] ids begin ended j s p q stop before after = cc
+  stop_by left blanks k [] (v ∷ vs) ids begin ended j s p q stop before after = absurd ended
+  stop_by left blanks k (w ∷ ws) [] ids begin ended j s p q stop before after = absurd ended
+  stop_by left blanks k (w ∷ ws) (v ∷ vs) ids begin ended zero s p q stop before after =
+      let s_is : stop_of v ≡ s = cc in
+      let p_is : w.pass ≡ p = cc in
+      let q_is : v.pass ≡ q = cc in
       let e : k ≡ k + 0 = omega arith in record {
-        worker = v;
+        track = v;
         is_there = refl;
-        actor_is = sym (ap (λ (x : Stopped). x.actor) s_is) ∙ first.worked.same ∙ ids.0 ∙ ap (λ (m : ℕ). ActorId.Hart m) e;
-        cause = subst (λ (x : Stopped). HasCause n blanks places.made.items places.layout x.stop v.track.work.journal.items (hart_wants v.hart) (tally p) (tally q)) s_is
-            (subst (λ (x : Q). HasCause n blanks places.made.items places.layout v.track.stop v.track.work.journal.items (hart_wants v.hart) (tally x) (tally q)) p_is
-            (subst (λ (x : Q). HasCause n blanks places.made.items places.layout v.track.stop v.track.work.journal.items (hart_wants v.hart) (tally w.track.pass) (tally x)) q_is
-            (subst (λ (x : ℕ). HasCause n x places.made.items places.layout v.track.stop v.track.work.journal.items (hart_wants v.hart) (tally w.track.pass) (tally v.track.pass))
-            begin.0.pool first.worked.cause)));
+        actor_is = sym (ap (λ (x : Stopped). x.actor) s_is) ∙ ended.0.worked.same ∙ ids.0 ∙ ap (actor_of harts) e;
+        cause = subst (λ (m : ℕ). cause_at m blanks v s.stop p q) e
+            (subst (λ (x : Stopped). cause_at k blanks v x.stop p q) s_is
+            (subst (λ (x : Q). cause_at k blanks v v.stop x q) p_is
+            (subst (λ (x : Q). cause_at k blanks v v.stop w.pass x) q_is
+            (subst (λ (x : ℕ). cause_at k x v v.stop w.pass v.pass) begin.0.pool ended.0.worked.cause))));
       }
-  stop_by left blanks k (w ∷ ws) (v ∷ vs) long ids begin each (suc j) s p q stop before after =
-      let rest : HartStop blanks (suc k) j vs s p q =
-      stop_by left blanks (suc k) ws vs (omega (arith, long)) ids.1 begin.1
-      (λ i d below. let more : suc i < length (w ∷ ws) = omega (arith, below) in each (suc i) d more) j s p q stop before after in
-      let e : suc k + j ≡ k + suc j = omega arith in
-      record { worker = rest.worker; is_there = rest.is_there; actor_is = rest.actor_is ∙ ap (λ (m : ℕ). ActorId.Hart m) e; cause = rest.cause }
+  stop_by left blanks k (w ∷ ws) (v ∷ vs) ids begin ended (suc j) s p q stop before after =
+      let rest : TrackStop blanks (suc k) vs j s p q = stop_by left blanks (suc k) ws vs ids.1 begin.1 ended.1 j s p q stop before after in
+      let e : suc k + j ≡ k + suc j = omega arith in record {
+        track = rest.track;
+        is_there = rest.is_there;
+        actor_is = rest.actor_is ∙ ap (actor_of harts) e;
+        cause = subst (λ (m : ℕ). cause_at m blanks rest.track s.stop p q) e rest.cause;
+      }
 
 -- where the same pages were made among the same places
 same_cause : (n : ℕ) {blanks : ℕ} {made other : List Bool} {layout size : Layout} {stop : Stop} {es : List Entry} {want : Op} {before now : Tally}
@@ -118,21 +113,66 @@ same_cause n {blanks} {made} {other} {layout} {size} {stop} {es} {want} {before}
     subst (λ (m : List Bool). HasCause n blanks m size stop es want before now) made_is
     (subst (λ (l : Layout). HasCause n blanks made l stop es want before now) layout_is cause)
 
+-- ---- items by their places
+
+below : {A : Type 0} (xs : List A) (j : ℕ) (x : A) → slice_get xs j ≡ Some x → j < length xs
+below [] j x is = cc
+below (y ∷ xs) zero x is = omega arith
+below (y ∷ xs) (suc j) x is = let h = below xs j x is in omega (arith, h)
+
+behind : {A : Type 0} (xs ys : List A) (j : ℕ) → slice_get (xs ++ ys) (length xs + j) ≡ slice_get ys j
+behind [] ys j = let e : 0 + j ≡ j = omega arith in ap (slice_get ys) e
+behind (x ∷ xs) ys j =
+    let e : length (x ∷ xs) + j ≡ suc (length xs + j) = omega arith in ap (slice_get (x ∷ (xs ++ ys))) e ∙ behind xs ys j
+
 get_map : {A B : Type 0} (f : A → B) (xs : List A) (j : ℕ) (x : A) → slice_get xs j ≡ Some x → slice_get (map f xs) j ≡ Some (f x)
 get_map f [] j x is = cc
 get_map f (y ∷ xs) zero x is = let same : y ≡ x = cc in ap (λ z. Some (f z)) same
 get_map f (y ∷ xs) (suc j) x is = get_map f xs j x is
 
-length_map : {A B : Type 0} (f : A → B) (xs : List A) → length (map f xs) ≡ length xs
-length_map f [] = refl
-length_map f (x ∷ xs) = let e = length_map f xs in omega (arith, e)
+there_more : (harts devices more : ℕ) (a : ActorId) → devices ≤ more → IsThere harts devices a → IsThere harts more a
+there_more harts devices more ActorId.Timer few there = tt
+there_more harts devices more (ActorId.Hart k) few there = there
+there_more harts devices more (ActorId.Device k) few there = let lt : k < more = omega (arith, few, there) in lt
 
-module _ {Q : Type 0} (serves : Q → Type 0) (tally : Q → Tally) (n : ℕ) (asked now : ClockKnown) (old : WorldValue) (places : Places)
-    (t u : TimerWorker Q) (ws vs : List (HartWorker Q)) (left passes later : List Q)
-    (pages : List PageValue) (ports : List PortState) (b : Board) (harts : List Hart) (journals : List Journal) (stops : List Stopped) (events : List Entry)
-    (v : View MachinePlace) (list : List (Held MachinePlace)) (are : ArePages 0 old.pages) (layout_is : places.layout ≡ layout_in old) (made_is : places.made.items ≡ made_of old.pages)
-    (staffed : AreStaffed n (pool_of n old.pages) old.timer old.harts passes t ws left) (timer_ends : TimerEnds serves tally places (timer_most n) asked now t u)
-    (worked : HartsWorked serves tally places n ws vs) (back : AreBack u vs left harts later journals stops)
+pub devices_long : {Q K : Type 0} (serves : Q → Type 0) (tally : Q → Tally) (Answers : ℕ → OutOp → Reply → K → K → Type 0) (places : Places) (n : ℕ)
+    (known left : K) (ds es : List (DeviceWorker Q)) → DevicesWorked serves tally Answers places n known left ds es → length es ≡ length ds
+devices_long serves tally Answers places n known left [] [] worked = refl
+devices_long serves tally Answers places n known left [] (e ∷ es) worked = absurd worked
+devices_long serves tally Answers places n known left (d ∷ ds) [] worked = absurd worked
+devices_long serves tally Answers places n known left (d ∷ ds) (e ∷ es) worked =
+    ap suc (devices_long serves tally Answers places n worked.0 left ds es worked.2)
+
+-- what each device asked was answered in the events
+answered_by : {Q K : Type 0} (serves : Q → Type 0) (tally : Q → Tally) (Answers : ℕ → OutOp → Reply → K → K → Type 0) (places : Places) (n : ℕ)
+    (events : List Entry) (p : ℕ) (known left : K) (ds es : List (DeviceWorker Q)) → AreDevices p ds
+    → ((j : ℕ) (e : DeviceWorker Q) → slice_get es j ≡ Some e → of_actor (ActorId.Device (p + j)) events ≡ e.track.work.journal.items)
+    → DevicesWorked serves tally Answers places n known left ds es → DevicesAnswered Answers events p (length ds) known left
+answered_by serves tally Answers places n events p known left [] [] ids mine worked = worked
+answered_by serves tally Answers places n events p known left [] (e ∷ es) ids mine worked = absurd worked
+answered_by serves tally Answers places n events p known left (d ∷ ds) [] ids mine worked = absurd worked
+answered_by serves tally Answers places n events p known left (d ∷ ds) (e ∷ es) ids mine worked =
+    let same : p + 0 ≡ p = omega arith in
+    let moved : (j : ℕ) → suc p + j ≡ p + suc j = λ j. omega arith in
+    let own : e.track.work.journal.items ≡ of_actor (ActorId.Device p) events =
+    sym (mine 0 e refl) ∙ ap (λ (k : ℕ). of_actor (ActorId.Device k) events) same in (
+      worked.0,
+      subst (λ (l : List Entry). AreAnswered Answers p known l worked.0) own
+          (subst (λ (k : ℕ). AreAnswered Answers k known e.track.work.journal.items worked.0) ids.0 worked.1.answers),
+      answered_by serves tally Answers places n events (suc p) worked.0 left ds es ids.1
+          (λ j x is. ap (λ (k : ℕ). of_actor (ActorId.Device k) events) (moved j) ∙ mine (suc j) x is) worked.2,
+    )
+
+module _ {Q K : Type 0} (serves : Q → Type 0) (tally : Q → Tally) (Answers : ℕ → OutOp → Reply → K → K → Type 0) (n : ℕ) (asked now : ClockKnown)
+    (known left : K) (old : WorldValue) (places : Places)
+    (t u : TimerWorker Q) (ws vs : List (HartWorker Q)) (ds es : List (DeviceWorker Q)) (resting : List Device) (over passes later : List Q)
+    (pages : List PageValue) (ports : List PortState) (b : Board) (harts : List Hart) (devices : List Device) (journals : List Journal)
+    (stops : List Stopped) (events : List Entry) (v : View MachinePlace) (list : List (Held MachinePlace))
+    (are : ArePages 0 old.pages) (layout_is : places.layout ≡ layout_in old) (made_is : places.made.items ≡ made_of old.pages)
+    (hired : AreHired n (pool_of n old.pages) (length old.harts) passes (tracks_of t ws ds) over)
+    (timer_is : t.timer ≡ old.timer) (harts_are : harts_of ws ≡ old.harts) (devices_are : devices_of ds ++ resting ≡ old.devices) (numbers : AreDevices 0 ds)
+    (beside : BesideEnds serves tally Answers places n asked now known left t u ds es) (worked : HartsWorked serves tally places n ws vs)
+    (harts_now : harts ≡ harts_of vs) (devices_now : devices ≡ devices_of es ++ resting) (back : AreBack (tracks_of u vs es) over later journals stops)
     (laid : AreLaid old.pages old.ports old.board v.round.opens) (noted : HasNoted v.round (index_among places.layout) v (all_of (journals_of journals)))
     (told : Told place_touch (λ (p : MachinePlace). p) IsMade v list)
     (home : ArePlaces pages ports b list) (pages_count : length pages ≡ length old.pages) (ports_count : length ports ≡ length old.ports)
@@ -140,36 +180,76 @@ module _ {Q : Type 0} (serves : Q → Type 0) (tally : Q → Tally) (n : ℕ) (a
   abbrev size : Layout
   size = layout_in old
 
+  abbrev count : ℕ
+  count = length old.harts
+
+  abbrev before : List (Track Q)
+  before = tracks_of t ws ds
+
+  abbrev after : List (Track Q)
+  after = tracks_of u vs es
+
   abbrev js : List (ActorId × List Entry)
-  js = slice_journals u vs
+  js = track_journals after
 
   abbrev new : WorldValue
-  new = world_with pages b ports u.timer harts old.devices
+  new = world_with pages b ports u.timer harts devices
 
-  crew : Crew size 0 vs old.harts
+  many : length ws ≡ count
+  many = sym (long_map (λ (w : HartWorker Q). w.hart) ws) ∙ ap length harts_are
+
+  starts : begins_at serves tally Answers places n asked now known left t u ws vs ds es resting beside worked ≡ actors_of old
+  starts = λ i. actor_among (timer_is i) (harts_are i) (devices_left (devices_are i))
+
+  ends : ends_at serves tally Answers places n asked now known left t u ws vs ds es resting beside worked ≡ actors_of new
+  ends = λ i. actor_among u.timer (sym harts_now i) (devices_left (sym devices_now i))
+
+  ended : AreEnded serves tally places n (actors_of old) (actors_of new) count 0 before after
+  ended =
+      subst (λ (k : ℕ). AreEnded serves tally places n (actors_of old) (actors_of new) k 0 before after) many
+      (subst (λ (f : ActorId → ActorState). AreEnded serves tally places n f (actors_of new) (length ws) 0 before after) starts
+      (subst (λ (f : ActorId → ActorState). AreEnded serves tally places n (begins_at serves tally Answers places n asked now known left t u ws vs ds es resting beside worked) f (length ws) 0 before after) ends
+      (all_ended serves tally Answers places n asked now known left t u ws vs ds es resting beside worked)))
+
+  crew : Crew size (actors_of old) (actors_of new) count 0 after
   crew =
-      subst (λ (l : Layout). Crew l 0 vs old.harts) layout_is
-      (subst (λ (l : List Hart). Crew places.layout 0 vs l) staffed.harts_are (crew_by serves tally places n 0 ws vs worked.same staffed.numbered worked.each))
+      subst (λ (l : Layout). Crew l (actors_of old) (actors_of new) count 0 after) layout_is
+      (crew_by serves tally places n (actors_of old) (actors_of new) count 0 before after hired.numbered ended)
 
-  first : u.track.work.actor ≡ ActorId.Timer
-  first = timer_ends.worked.same ∙ staffed.first
+  devices_as_long : length es ≡ length ds
+  devices_as_long = devices_long serves tally Answers places n known left ds es beside.devices
 
-  ran : HasRun timer_wants timer_next size ActorId.Timer old.timer u.track.work.journal.items u.timer u.track.work.clock
-  ran =
-      subst (λ (l : Layout). HasRun timer_wants timer_next l ActorId.Timer old.timer u.track.work.journal.items u.timer u.track.work.clock) layout_is
-      (subst (λ (x : Timer). HasRun timer_wants timer_next places.layout ActorId.Timer x u.track.work.journal.items u.timer u.track.work.clock) staffed.timer_is
-      (subst (λ (a : ActorId). HasRun timer_wants timer_next places.layout a t.timer u.track.work.journal.items u.timer u.track.work.clock) staffed.first timer_ends.worked.ran))
+  after_long : length after ≡ suc (count + length ds)
+  after_long =
+      let e = length-append (hart_tracks vs) (device_tracks es) in
+      let f = long_map (λ (w : HartWorker Q). w.track) vs in
+      let g = long_map (λ (d : DeviceWorker Q). d.track) es in
+      let h = worked.same in
+      omega (arith, e, f, g, h, many, devices_as_long)
 
   journals_is : journals_of journals ≡ js
-  journals_is = ap journals_of back.journals_are ∙ journals_are u vs
+  journals_is = ap journals_of back.journals_are ∙ journals_are after
 
   ordered : IsOrder (all_of js) events
   ordered = subst (λ (l : List (ActorId × List Entry)). IsOrder (all_of l) events) journals_is order
 
+  harts_long : length harts ≡ count
+  harts_long = ap length harts_now ∙ long_map (λ (v : HartWorker Q). v.hart) vs ∙ worked.same ∙ many
+
+  device_count : length (devices_of es) ≡ length (devices_of ds)
+  device_count =
+      long_map (λ (d : DeviceWorker Q). d.device) es ∙ devices_as_long ∙ sym (long_map (λ (d : DeviceWorker Q). d.device) ds)
+
+  others : (a : ActorId) → ((j : ℕ) → 0 ≤ j → j < 0 + length after → same_actor (actor_of count j) a ≡ false) → actors_of old a ≡ actors_of new a
+  others a none =
+      ap (λ (f : ActorId → ActorState). f a) (sym starts)
+      ∙ others_same t.timer u.timer (harts_of ws) (harts_of vs) (devices_of ds) (devices_of es) resting count (ap length harts_are)
+      (long_map (λ (v : HartWorker Q). v.hart) vs ∙ worked.same ∙ many) device_count (length after)
+      (after_long ∙ ap (λ (k : ℕ). suc (count + k)) (sym (long_map (λ (d : DeviceWorker Q). d.device) ds))) a none
+      ∙ ap (λ (f : ActorId → ActorState). f a) ends
+
   followed : AreFollowed actor_wants actor_next (route_among size) OutFits (actors_of old) (actors_of new) js
-  followed =
-      subst (λ (l : List Hart). AreFollowed actor_wants actor_next (route_among size) OutFits (actors_of old) (actors_of (world_with pages b ports u.timer l old.devices)) js)
-      (sym back.harts_are) (are_followed size old.timer old.harts u vs first ran crew)
+  followed = are_followed size (actors_of old) (actors_of new) count after crew others
 
   -- the seat with all parts has noted just what the journals have
   noted_all : HasNoted v.round (index_among size) v (all_of js)
@@ -200,96 +280,114 @@ module _ {Q : Type 0} (serves : Q → Type 0) (tally : Q → Tally) (n : ℕ) (a
       actor_wants actor_next (route_among size) (places_of old) (places_of new) (actors_of old) (actors_of new) followed values)
       ordered
 
-  all_there : All (λ (e : Entry). IsThere (length old.harts) e.actor) events
+  all_there : All (λ (e : Entry). IsThere count (length ds) e.actor) events
   all_there =
-      All-permutation (λ (e : Entry). IsThere (length old.harts) e.actor) (all_of js) events ordered.moved
-      (All-from_recursion (λ (e : Entry). IsThere (length old.harts) e.actor) (all_of js) (are_there size old.timer old.harts u vs first ran crew))
+      All-permutation (λ (e : Entry). IsThere count (length ds) e.actor) (all_of js) events ordered.moved
+      (All-from_recursion (λ (e : Entry). IsThere count (length ds) e.actor) (all_of js)
+      (are_there size (actors_of old) (actors_of new) count after crew (length ds) (omega (arith, after_long))))
 
-  reached : Reaches old events
+  few : length ds ≤ length (devices_left old.devices)
+  few =
+      let e = long_map device_left old.devices in
+      let f = ap length devices_are in
+      let g = length-append (devices_of ds) resting in
+      let h = long_map (λ (d : DeviceWorker Q). d.device) ds in
+      omega (arith, e, f, g, h)
+
+  more_there : (xs : List Entry) → AllByRecursion (λ (e : Entry). IsThere count (length ds) e.actor) xs
+      → AllByRecursion (λ (e : Entry). IsThere count (length (devices_left old.devices)) e.actor) xs
+  more_there [] h = tt
+  more_there (x ∷ xs) h = (there_more count (length ds) (length (devices_left old.devices)) x.actor few h.0, more_there xs h.1)
+
+  reached : Reaches (standing_of old) events
   reached =
-      reaches events old size (length old.harts) refl refl are
-      (recursion_from_All (λ (e : Entry). IsThere (length old.harts) e.actor) events all_there) run.fresh
-
-  harts_long : length harts ≡ length old.harts
-  harts_long =
-      ap length back.harts_are ∙ length_map (λ (v : HartWorker Q). v.hart) vs ∙ worked.same
-      ∙ sym (length_map (λ (w : HartWorker Q). w.hart) ws) ∙ ap length staffed.harts_are
+      reaches events (standing_of old) size count (length (devices_left old.devices)) refl refl refl are
+      (more_there events (recursion_from_All (λ (e : Entry). IsThere count (length ds) e.actor) events all_there)) run.fresh
 
   came : layout_in new ≡ layout_in old
   came = λ i. record { pages = pages_count i; ports = ports_count i }
 
-  arrived : record reached.end { spare = new.spare } ≡ new
+  arrived : reached.end ≡ standing_of new
   arrived =
-      same_world reached.end new (reached.layout ∙ sym came) (reached.harts ∙ sym harts_long) reached.devices
+      same_standing reached.end (standing_of new) (reached.layout ∙ sym came) (reached.harts ∙ sym harts_long)
       (λ p inner. sym (ap (λ (f : PlaceId → _). f p) reached.places) ∙ run.places p inner)
       (λ a. sym (ap (λ (f : ActorId → _). f a) reached.actors) ∙ run.actors a)
 
   mine : (a : ActorId) → of_actor a events ≡ journal_at a js
   mine a = to_journal js events followed.own followed.climb ordered a
 
+  own_at : (i : ℕ) (x : Track Q) → slice_get after i ≡ Some x → of_actor (actor_of count i) events ≡ x.work.journal.items
+  own_at i x is =
+      let e : i ≡ 0 + i = omega arith in
+      mine (actor_of count i) ∙ ap (λ (k : ℕ). journal_at (actor_of count k) js) e
+      ∙ journal_there size (actors_of old) (actors_of new) count 0 after crew i x is
+
   timers : of_actor ActorId.Timer events ≡ u.track.work.journal.items
-  timers = mine ActorId.Timer ∙ at_timer size old.timer old.harts u vs first ran crew
+  timers = own_at 0 u.track refl
 
-  harts_own : (j : ℕ) (v : HartWorker Q) → slice_get vs j ≡ Some v → of_actor (ActorId.Hart j) events ≡ v.track.work.journal.items
-  harts_own j v is =
-      let e : j ≡ 0 + j = omega arith in
-      mine (ActorId.Hart j) ∙ at_other size old.timer old.harts u vs first ran crew (ActorId.Hart j) refl
-      ∙ ap (λ (k : ℕ). journal_at (ActorId.Hart k) (harts_journals vs)) e ∙ journal_there size 0 vs old.harts crew j v is
+  -- the journal of a device
+  device_there : (j : ℕ) (e : DeviceWorker Q) → slice_get es j ≡ Some e → slice_get after (suc (count + j)) ≡ Some e.track
+  device_there j e is =
+      let long : count ≡ length (hart_tracks vs) = sym many ∙ sym worked.same ∙ sym (long_map (λ (w : HartWorker Q). w.track) vs) in
+      ap (λ (k : ℕ). slice_get (hart_tracks vs ++ device_tracks es) (k + j)) long ∙ behind (hart_tracks vs) (device_tracks es) j
+      ∙ get_map (λ (d : DeviceWorker Q). d.track) es j e is
 
-  stopped : (i : ℕ) (s : Stopped) (p q : Q) → slice_get (stops_from u vs) i ≡ Some s
-      → slice_get (t.track.pass ∷ (passes_of ws ++ left)) i ≡ Some p → slice_get (u.track.pass ∷ (passes_of vs ++ left)) i ≡ Some q
-      → IsStopped tally n old events new i s p q
-  stopped zero s p q stop before after =
-      let s_is : stop_of u.track ≡ s = cc in
-      let p_is : t.track.pass ≡ p = cc in
-      let q_is : u.track.pass ≡ q = cc in
-      let actor : s.actor ≡ ActorId.Timer = sym (ap (λ (x : Stopped). x.actor) s_is) ∙ first in record {
+  devices_own : (j : ℕ) (e : DeviceWorker Q) → slice_get es j ≡ Some e → of_actor (ActorId.Device (0 + j)) events ≡ e.track.work.journal.items
+  devices_own j e is =
+      let first : 0 + j ≡ j = omega arith in
+      ap (λ (k : ℕ). of_actor (ActorId.Device k) events) first
+      ∙ ap (λ (a : ActorId). of_actor a events) (sym (device_id count j)) ∙ own_at (suc (count + j)) e.track (device_there j e is)
+
+  new_there : (i : ℕ) → i < suc (count + length ds) → IsThere (length new.harts) (length (devices_left new.devices)) (actor_of count i)
+  new_there i lt =
+      let e = long_map device_left devices in
+      let f = ap length devices_now in
+      let g = length-append (devices_of es) resting in
+      let h = long_map (λ (d : DeviceWorker Q). d.device) es in
+      subst (λ (k : ℕ). IsThere k (length (devices_left new.devices)) (actor_of count i)) (sym harts_long)
+      (there_more count (length ds) (length (devices_left new.devices)) (actor_of count i) (omega (arith, e, f, g, h, devices_as_long))
+      (is_there count (length ds) i (omega (arith, lt))))
+
+  stopped : (i : ℕ) (s : Stopped) (p q : Q) → slice_get (stops_from after) i ≡ Some s → slice_get (passes_of before ++ over) i ≡ Some p
+      → slice_get (passes_of after ++ over) i ≡ Some q → IsStopped tally n old events new i s p q
+  stopped i s p q stop first last =
+      let h =
+      stop_by serves tally places n (actors_of old) (actors_of new) count over (pool_of n old.pages) 0 before after hired.numbered
+      (recursion_from_All (λ (w : Track Q). Begins n (pool_of n old.pages) w) before hired.begin) ended i s p q stop first last in
+      let e : 0 + i ≡ i = omega arith in
+      let actor : s.actor ≡ actor_of count i = h.actor_is ∙ ap (actor_of count) e in record {
         actor_is = actor;
-        want = timer_wants u.timer;
-        wants = ap (λ (a : ActorId). want_in new a) actor;
-        cause = rw (ap (λ (a : ActorId). of_actor a events) actor ∙ timers)
-            (subst (λ (x : Stopped). HasCause (timer_most n) (pool_of n old.pages) (made_of old.pages) (layout_in old) x.stop u.track.work.journal.items (timer_wants u.timer) (tally p) (tally q)) s_is
-            (subst (λ (x : Q). HasCause (timer_most n) (pool_of n old.pages) (made_of old.pages) (layout_in old) u.track.stop u.track.work.journal.items (timer_wants u.timer) (tally x) (tally q)) p_is
-            (subst (λ (x : Q). HasCause (timer_most n) (pool_of n old.pages) (made_of old.pages) (layout_in old) u.track.stop u.track.work.journal.items (timer_wants u.timer) (tally t.track.pass) (tally x)) q_is
-            (same_cause (timer_most n) made_is layout_is
-            (subst (λ (x : ℕ). HasCause (timer_most n) x places.made.items places.layout u.track.stop u.track.work.journal.items (timer_wants u.timer) (tally t.track.pass) (tally u.track.pass))
-            staffed.begins.pool timer_ends.worked.cause)))));
-      }
-  stopped (suc j) s p q stop before after =
-      let h = stop_by serves tally places n left (pool_of n old.pages) 0 ws vs worked.same staffed.numbered
-      (recursion_from_All (λ (w : HartWorker Q). Begins n (pool_of n old.pages) w.track) ws staffed.begin) worked.each j s p q stop before after in
-      let e : 0 + j ≡ j = omega arith in
-      let actor : s.actor ≡ ActorId.Hart j = h.actor_is ∙ ap (λ (k : ℕ). ActorId.Hart k) e in record {
-        actor_is = actor;
-        want = hart_wants h.worker.hart;
-        wants = ap (λ (a : ActorId). want_in new a) actor
-            ∙ ap (λ (l : List Hart). want_of (slice_get l j)) back.harts_are
-            ∙ ap want_of (get_map (λ (v : HartWorker Q). v.hart) vs j h.worker h.is_there);
-        cause = rw (ap (λ (a : ActorId). of_actor a events) actor ∙ harts_own j h.worker h.is_there) (same_cause n made_is layout_is h.cause);
+        want = actor_wants (actors_of new (actor_of count i));
+        wants = ap (want_in new) actor
+            ∙ wants_there (standing_of new) (actor_of count i) (new_there i (subst (λ (k : ℕ). i < k) after_long (below after i h.track h.is_there)));
+        cause = rw (ap (λ (a : ActorId). of_actor a events) actor ∙ own_at i h.track h.is_there)
+            (same_cause (most_of i n) made_is layout_is
+            (subst (λ (m : ℕ). HasCause (most_of m n) (pool_of n old.pages) places.made.items places.layout s.stop h.track.work.journal.items
+            (actor_wants (actors_of new (actor_of count m))) (tally p) (tally q)) e h.cause));
       }
 
-  pub whole : IsSlice tally n asked now old events new stops passes later
+  serial : IsSerial old events new
+  serial g is = let to = reached.serial g is in (to.0, to.1, subst (λ (s : Standing). IsStanding s to.0) arrived to.2)
+
+  pub whole : IsSlice tally Answers n (length ds) asked now known left old events new stops passes later
   whole = record {
-    serial = subst (λ (w : WorldValue). IsSerial old events w) arrived reached.serial;
+    serial = serial;
     there = all_there;
     stamps =
         stamped place_touch (λ (p : MachinePlace). p) IsMade (index_among size) js v list is_index are_noted told events
-        (are_stamped size old.timer old.harts u vs first ran crew) ordered;
-    marks = subst (λ (w : WorldValue). MarksFollow old.pages events w.pages) arrived reached.marks;
+        (are_stamped size (actors_of old) (actors_of new) count after crew) ordered;
+    marks = subst (λ (s : Standing). MarksFollow old.pages events s.pages) arrived reached.marks;
     stopped = record {
-      count = ap length back.stops_are
-          ∙ (let e = length_map (λ (v : HartWorker Q). stop_of v.track) vs in
-          let f = length_map (λ (v : HartWorker Q). v.hart) vs in
-          let g = ap length back.harts_are in omega (arith, e, f, g));
-      each = λ i s p q stop before after. stopped i s p q (ap (λ l. slice_get l i) (sym back.stops_are) ∙ stop)
-          (ap (λ l. slice_get l i) staffed.passes_are ∙ before) (ap (λ l. slice_get l i) (sym back.passes_are) ∙ after);
+      count = ap length back.stops_are ∙ long_map (λ (x : Track Q). stop_of x) after ∙ after_long ∙ ap (λ (k : ℕ). suc (k + length ds)) (sym harts_long);
+      each = λ i s p q stop first last. stopped i s p q (ap (λ l. slice_get l i) (sym back.stops_are) ∙ stop)
+          (ap (λ l. slice_get l i) hired.passes_are ∙ first) (ap (λ l. slice_get l i) (sym back.passes_are) ∙ last);
     };
     clock = λ tells. (
-      timer_ends.answers.still tells,
-      subst (λ (l : List Entry). AreNext asked.left (answers_of l) now.left) (sym timers) (timer_ends.answers.are tells),
+      beside.timer.answers.still tells,
+      subst (λ (l : List Entry). AreNext asked.left (answers_of l) now.left) (sym timers) (beside.timer.answers.are tells),
     );
-    pages = subst (λ (w : WorldValue). ArePages 0 w.pages) arrived reached.pages;
+    answered = answered_by serves tally Answers places n events 0 known left ds es numbers devices_own beside.devices;
+    pages = subst (λ (s : Standing). ArePages 0 s.pages) arrived reached.pages;
     count = pages_count;
     ports = ports_count;
-    devices = refl;
   }

@@ -22,7 +22,7 @@ use Rattle.slice_runner.specs.declared.stop.Stop.{Stop}
 use Rattle.slice_runner.specs.declared.worker.Track.{Track}
 use Rattle.slice_runner.specs.Runs.{GoesOn, HasEnded, HasRun, IsActOf, IsSameBut, IsUnderWay, StopsFor, WritesDown}
 use Rattle.slice_runner.specs.Blanks.{was_made}
-use Rattle.slice_runner.specs.Stops.{IsUnfull, closings, is_last_full}
+use Rattle.slice_runner.specs.Stops.{IsUnfull, closings, is_last_full, may_lack}
 use Rattle.slice_runner.specs.Values.{route_among}
 use Rattle.stamp_merge.proofs.Stamps.{Stamped-more}
 
@@ -131,6 +131,7 @@ module _ {S Q : Type 0} (want : S → Op) (next : S → Reply → S) (tally : Q 
                 omega (arith, way.pool, none, mid_long),
                 ap (λ (o : Op). was_made made layout o) (sym is_want) ∙ (why.lacks is).1,
               );
+          unanswered = λ is. ap (may_lack layout) (sym is_want) ∙ why.unanswered is;
         };
       }
 

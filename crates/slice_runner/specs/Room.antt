@@ -1,8 +1,10 @@
 -- Room for a slice, made before its first step.
 use Rattle.std.specs.Prelude.{ℕ, ◌≡◌, ◌+◌, ◌*◌, ◌≤◌, [], All, length, vec_capacity}
+use Rattle.slice_runner.specs.declared.room.Counts.{Counts}
 use Rattle.slice_runner.specs.declared.room.CrewRoom.{CrewRoom}
 use Rattle.slice_runner.specs.declared.room.HomeRoom.{HomeRoom}
 use Rattle.slice_runner.specs.declared.room.PlaceRoom.{PlaceRoom}
+use Rattle.slice_runner.specs.declared.room.PostRoom.{PostRoom}
 use Rattle.slice_runner.specs.declared.room.Room.{Room}
 use Rattle.slice_runner.specs.declared.room.WorkRoom.{WorkRoom}
 
@@ -17,41 +19,65 @@ pub record ForPlaces (pages ports : ℕ) (room : PlaceRoom) : Type 0 where
   pub no_made : room.made.items ≡ []
   pub for_made : pages ≤ vec_capacity room.made
 
--- with room for so many harts and passes, an empty journal for each actor, and a pool of so many blanks for each
-pub record ForWork {Q : Type 0} (harts passes blanks : ℕ) (room : WorkRoom Q) : Type 0 where
-  pub no_workers : room.workers.items ≡ []
-  pub for_workers : harts ≤ vec_capacity room.workers
+abbrev pub counts_of : ℕ → ℕ → ℕ → Counts
+counts_of harts devices passes = record { harts = harts; devices = devices; passes = passes }
+
+-- the timer, the harts and the devices
+abbrev pub actors_in : Counts → ℕ
+actors_in counts = counts.harts + (counts.devices + 1)
+
+-- with room for so many actors and passes, an empty journal for each actor, and a pool of so many blanks for each
+pub record ForWork {Q : Type 0} (actors passes blanks : ℕ) (room : WorkRoom Q) : Type 0 where
+  pub no_tracks : room.tracks.items ≡ []
+  pub for_tracks : actors ≤ vec_capacity room.tracks
   pub none_left : room.left.items ≡ []
   pub for_left : passes ≤ vec_capacity room.left
-  pub blank : length room.blank.items ≡ harts + 1
+  pub blank : length room.blank.items ≡ actors
   pub are_blank : All (λ journal. journal.items ≡ []) room.blank.items
-  pub pools : length room.pools.items ≡ harts + 1
+  pub pools : length room.pools.items ≡ actors
   pub filled : All (λ pool. length pool.items ≡ blanks) room.pools.items
 
--- with room for so many harts and what they and the timer did
-pub record ForHome (harts : ℕ) (room : HomeRoom) : Type 0 where
-  pub no_harts : room.harts.items ≡ []
-  pub for_harts : harts ≤ vec_capacity room.harts
+-- with room for so many harts and devices at work, and for what all actors did
+pub record ForPosts {Q : Type 0} (counts : Counts) (room : PostRoom Q) : Type 0 where
+  pub no_workers : room.workers.items ≡ []
+  pub for_workers : counts.harts ≤ vec_capacity room.workers
+  pub no_devices : room.devices.items ≡ []
+  pub for_devices : counts.devices ≤ vec_capacity room.devices
+  pub no_tracks : room.tracks.items ≡ []
+  pub for_tracks : actors_in counts ≤ vec_capacity room.tracks
+
+-- with room for what so many actors did
+pub record IsHome (actors : ℕ) (room : HomeRoom) : Type 0 where
   pub no_journals : room.journals.items ≡ []
-  pub for_journals : harts + 1 ≤ vec_capacity room.journals
+  pub for_journals : actors ≤ vec_capacity room.journals
   pub no_stops : room.stops.items ≡ []
-  pub for_stops : harts + 1 ≤ vec_capacity room.stops
+  pub for_stops : actors ≤ vec_capacity room.stops
   pub no_pools : room.pools.items ≡ []
-  pub for_pools : harts + 1 ≤ vec_capacity room.pools
+  pub for_pools : actors ≤ vec_capacity room.pools
+
+-- and for so many harts and devices
+pub record ForHome (counts : Counts) (room : HomeRoom) : Type 0 where
+  pub no_harts : room.harts.items ≡ []
+  pub for_harts : counts.harts ≤ vec_capacity room.harts
+  pub no_devices : room.devices.items ≡ []
+  pub for_devices : counts.devices ≤ vec_capacity room.devices
+  pub done : IsHome (actors_in counts) room
 
 -- so many steps of each actor have room in its journal, and all of them in the list of events
-pub record ForCrew {Q : Type 0} (harts passes n blanks : ℕ) (room : CrewRoom Q) : Type 0 where
-  pub work : ForWork harts passes blanks room.work
+pub record ForCrew {Q : Type 0} (counts : Counts) (n blanks : ℕ) (room : CrewRoom Q) : Type 0 where
+  pub work : ForWork (actors_in counts) counts.passes blanks room.work
+  pub posts : ForPosts counts room.posts
   pub entries : All (λ journal. n ≤ vec_capacity journal) room.work.blank.items
   pub no_passes : room.passes.items ≡ []
-  pub for_passes : passes ≤ vec_capacity room.passes
-  pub home : ForHome harts room.home
+  pub for_passes : counts.passes ≤ vec_capacity room.passes
+  pub home : ForHome counts room.home
+  pub no_resting : room.resting.items ≡ []
   pub no_events : room.events.items ≡ []
-  pub for_events : (harts + 1) * n ≤ vec_capacity room.events
+  pub for_events : actors_in counts * n ≤ vec_capacity room.events
 
-pub record HasRoom {Q : Type 0} (pages ports harts passes n blanks : ℕ) (room : Room Q) : Type 0 where
+pub record HasRoom {Q : Type 0} (pages ports : ℕ) (counts : Counts) (n blanks : ℕ) (room : Room Q) : Type 0 where
   pub places : ForPlaces pages ports room.places
-  pub crew : ForCrew harts passes n blanks room.crew
+  pub crew : ForCrew counts n blanks room.crew
 
 -- one actor more came home, and no room is gone
 pub record GrowsByOne (old new : HomeRoom) : Type 0 where

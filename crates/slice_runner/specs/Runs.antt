@@ -1,18 +1,22 @@
 -- What an actor does in a slice.
 use Rattle.std.specs.Prelude.{ℕ, ◌≡◌, ◌+◌, ◌<◌, ◌≤◌, ◌^◌, ◌↔◌, true, false, max, List, [], ◌∷◌, ◌++◌, length}
-use Rattle.std.specs.Prelude.{Bool, Option, Some, None, vec_capacity}
+use Rattle.std.specs.Prelude.{Bool, Option, Some, None, nat_lt, vec_capacity}
 use Rattle.std.specs.List.{AllByRecursion}
 use Rattle.vm_types.specs.declared.entry.Entry.{Entry}
 use Rattle.vm_types.specs.declared.ids.ActorId.{ActorId}
 use Rattle.vm_types.specs.declared.op.Op.{Op}
+use Rattle.vm_types.specs.declared.op.OutOp.{OutOp}
 use Rattle.vm_types.specs.declared.op.OutOp.TheVariants.{Clock}
 use Rattle.vm_types.specs.declared.reply.Reply.{Reply}
+use Rattle.vm_types.specs.Fits.{out_fits}
 use Rattle.vm_types.specs.Histories.{last_stamp}
 use Rattle.vm_types.specs.Ids.{is_out}
 use Rattle.vm_types.specs.Serial.{Follows, IsPlaced, OutFits, Placed}
 use Rattle.hart_trace.specs.States.{hart_next, hart_wants}
 use Rattle.hart_trace.specs.Traces.{is_full}
 use Rattle.timer_trace.specs.States.{timer_next, timer_wants}
+use Rattle.guest_devices.specs.Devices.{device_next, device_wants}
+use Rattle.guest_devices.specs.Kept.{device_left}
 use Rattle.flat_guest.specs.Body.{out_reply}
 use Rattle.flat_guest.specs.Given.{Given}
 use Rattle.pause_gate.specs.Tally.{Tally}
@@ -20,11 +24,12 @@ use Rattle.stamp_merge.specs.declared.layout.Layout.{Layout}
 use Rattle.stamp_merge.specs.Stamps.{OutIsZero, Stamped}
 use Rattle.vm_host.specs.Telling.{AreNext, ClockKnown, Gives, Tells}
 use Rattle.slice_runner.specs.declared.stop.Stop.{Stop}
+use Rattle.slice_runner.specs.declared.worker.DeviceWorker.{DeviceWorker}
 use Rattle.slice_runner.specs.declared.worker.HartWorker.{HartWorker}
 use Rattle.slice_runner.specs.declared.worker.TimerWorker.{TimerWorker}
 use Rattle.slice_runner.specs.declared.worker.Track.{Track}
 use Rattle.slice_runner.specs.Blanks.{CanAct, was_made}
-use Rattle.slice_runner.specs.Stops.{HasCause, IsUnfull, closings, is_last_full}
+use Rattle.slice_runner.specs.Stops.{HasCause, IsUnfull, closings, is_last_full, may_lack}
 use Rattle.slice_runner.specs.Values.{route_among}
 
 -- the entry is of this actor and op, at the op's place among so many pages and ports, with the next stamp after the actor's
@@ -87,6 +92,10 @@ abbrev pub TimerWorked : {Q : Type 0} → (Q → Tally) → Layout → List Bool
 TimerWorked tally layout made n before after =
     HasWorked timer_wants timer_next tally layout made n before.timer after.timer before.track after.track
 
+abbrev pub DeviceWorked : {Q : Type 0} → (Q → Tally) → Layout → List Bool → ℕ → DeviceWorker Q → DeviceWorker Q → Type 0
+DeviceWorked tally layout made n before after =
+    HasWorked device_wants device_next tally layout made n (device_left before.device) (device_left after.device) before.track after.track
+
 -- nothing but the pass may have changed
 pub record IsSameBut {Q : Type 0} (old new : Track Q) : Type 0 where
   pub full : new.full ≡ old.full
@@ -102,6 +111,7 @@ pub record StopsFor {Q : Type 0} (tally : Q → Tally) (layout : Layout) (made :
   pub full : stop ≡ Stop.Full → old.full ≡ true
   pub stamp : stop ≡ Stop.Stamp → 2 ^ 63 ≤ old.work.clock
   pub lacks : stop ≡ Stop.Blanks → (length old.pool.items ≡ 0) × (was_made made layout want ≡ false)
+  pub unanswered : stop ≡ Stop.Unanswered → may_lack layout want ≡ true
 
 -- or it makes one
 pub record GoesOn {Q : Type 0} (tally : Q → Tally) (layout : Layout) (made : List Bool) (want : Op) (old new : Track Q) : Type 0 where
@@ -131,3 +141,31 @@ IsAsked op old given new = (given ≡ None) × (new ≡ old)
 pub record HasAnswered (start : ClockKnown) (answers : List ℕ) (now : ClockKnown) : Type 0 where
   pub still : Tells start → Tells now
   pub are : Tells start → AreNext start.left answers now.left
+
+-- an act that has an answer among so many ports, where these calls of host objects have one
+abbrev pub can_be_done : (OutOp → Bool) → Layout → Op → Bool
+can_be_done calls layout (Op.Port port act) = nat_lt port layout.ports
+can_be_done calls layout (Op.Out act) = calls act
+can_be_done calls layout op = true
+
+-- an act on a port is on one of so many
+abbrev pub has_port : Layout → Op → Bool
+has_port layout (Op.Port port act) = nat_lt port layout.ports
+has_port layout op = true
+
+-- an object answered the device with this number that calls it; no other act asks one
+abbrev pub IsGivenBy : {K : Type 0} → (ℕ → OutOp → Reply → K → K → Type 0) → ℕ → Op → K → Option Reply → K → Type 0
+IsGivenBy {K} Answers device (Op.Out act) old given new =
+    (reply : Reply) × (given ≡ Some reply) × (out_fits act reply ≡ true) × Answers device act reply old new
+IsGivenBy {K} Answers device op old given new = (given ≡ None) × (new ≡ old)
+
+-- what an act with this reply leaves of what is known of the objects
+abbrev pub IsAnswered : {K : Type 0} → (ℕ → OutOp → Reply → K → K → Type 0) → ℕ → Op → Reply → K → K → Type 0
+IsAnswered {K} Answers device (Op.Out act) reply old new = Answers device act reply old new
+IsAnswered {K} Answers device op reply old new = new ≡ old
+
+-- the objects answered this device what it asked in these entries, one after another
+abbrev pub AreAnswered : {K : Type 0} → (ℕ → OutOp → Reply → K → K → Type 0) → ℕ → K → List Entry → K → Type 0
+AreAnswered Answers device old [] new = new ≡ old
+AreAnswered {K} Answers device old (e ∷ es) new =
+    (mid : K) × IsAnswered Answers device e.op e.reply old mid × AreAnswered Answers device mid es new

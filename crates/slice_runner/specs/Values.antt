@@ -1,10 +1,12 @@
--- The timer and the harts as actors of one kind; and the places and the actors of a world.
-use Rattle.std.specs.Prelude.{ℕ, ◌*◌, List, [], length, slice_index_or}
+-- The timer, the harts and the devices as actors of one kind; and the places and the actors of a world.
+use Rattle.std.specs.Prelude.{ℕ, ◌*◌, List, [], Option, Some, None, length, slice_get, slice_index_or}
 use Rattle.vm_types.specs.declared.ids.ActorId.{ActorId}
 use Rattle.vm_types.specs.declared.ids.PlaceId.{PlaceId}
 use Rattle.vm_types.specs.declared.op.Op.{Op}
 use Rattle.vm_types.specs.declared.reply.Reply.{Reply}
 use Rattle.board_table.specs.Board.{Board}
+use Rattle.guest_devices.specs.Devices.{DeviceLeft, device_next, device_wants}
+use Rattle.guest_devices.specs.Kept.{devices_left}
 use Rattle.guest_memory.specs.Ram.{page_size}
 use Rattle.guest_pages.specs.Pages.{PageValue, new_page}
 use Rattle.hart_trace.specs.States.{Hart, fresh, hart_next, hart_wants}
@@ -24,14 +26,17 @@ use Rattle.vm_world.specs.Worlds.{WorldValue}
 pub data ActorState : Type 0 where
   TimerIs : Timer → ActorState
   HartIs : Hart → ActorState
+  DeviceIs : DeviceLeft → ActorState
 
 abbrev pub actor_wants : ActorState → Op
 actor_wants (TimerIs t) = timer_wants t
 actor_wants (HartIs h) = hart_wants h
+actor_wants (DeviceIs left) = device_wants left
 
 abbrev pub actor_next : ActorState → Reply → ActorState
 actor_next (TimerIs t) reply = TimerIs (timer_next t reply)
 actor_next (HartIs h) reply = HartIs (hart_next h reply)
+actor_next (DeviceIs left) reply = DeviceIs (device_next left reply)
 
 -- the place of an op, where there are so many pages and ports
 abbrev pub route_among : Layout → Op → PlaceId
@@ -53,14 +58,18 @@ place_among pages ports b (PlaceId.Port k) = holds.Port (port_or_none ports k)
 place_among pages ports b PlaceId.Board = holds.Board b
 place_among pages ports b PlaceId.Out = holds.Page (new_page 0)
 
--- where the actors stand; a hart that there isn't, and a device, are no actors
+-- where the actors stand; a hart or a device that there isn't is no actor
 abbrev pub hart_or_none : List Hart → ℕ → Hart
 hart_or_none harts k = slice_index_or harts k (fresh stopped_regs)
 
-abbrev pub actor_among : Timer → List Hart → ActorId → ActorState
-actor_among t harts ActorId.Timer = TimerIs t
-actor_among t harts (ActorId.Hart k) = HartIs (hart_or_none harts k)
-actor_among t harts (ActorId.Device k) = HartIs (fresh stopped_regs)
+abbrev pub device_or_none : Option DeviceLeft → ActorState
+device_or_none None = HartIs (fresh stopped_regs)
+device_or_none (Some left) = DeviceIs left
+
+abbrev pub actor_among : Timer → List Hart → List DeviceLeft → ActorId → ActorState
+actor_among t harts lefts ActorId.Timer = TimerIs t
+actor_among t harts lefts (ActorId.Hart k) = HartIs (hart_or_none harts k)
+actor_among t harts lefts (ActorId.Device k) = device_or_none (slice_get lefts k)
 
 abbrev pub layout_in : WorldValue → Layout
 layout_in w = record { pages = length w.pages; ports = length w.ports }
@@ -69,4 +78,4 @@ abbrev pub places_of : WorldValue → PlaceId → MachinePlace
 places_of w = place_among w.pages w.ports w.board
 
 abbrev pub actors_of : WorldValue → ActorId → ActorState
-actors_of w = actor_among w.timer w.harts
+actors_of w = actor_among w.timer w.harts (devices_left w.devices)

@@ -3,11 +3,10 @@ ghost use Rattle.std.specs.Prelude.{◌≡◌, ◌<◌, ◌^◌, true, false, le
 ghost use Rattle.flat_guest.specs.Body.{out_reply};
 ghost use Rattle.flat_guest.specs.Given.{as_given};
 ghost use Rattle.flat_guest.specs.Steps.{is_given};
-ghost use Rattle.hart_trace.specs.Asks.{is_port_op};
 ghost use Rattle.turn_table.specs.Blanks.{IsOneAtMost};
 ghost use Rattle.turn_work.specs.Work.{HasWritten};
 ghost use Rattle.slice_runner.specs.Blanks.{CanAct};
-ghost use Rattle.slice_runner.specs.Runs.{IsActOf};
+ghost use Rattle.slice_runner.specs.Runs.{IsActOf, has_port};
 ghost use Rattle.slice_runner.specs.Seats.{IsSeated, StaysSeated};
 
 use crate::places::Places;
@@ -46,7 +45,7 @@ pub fn act_once<Q, R: Wait, G: Gate>(
     requires room { (vec_len track.old.work.journal < vec_capacity track.old.work.journal) × (vec_len track.old.work.journal < 2 ^ 32) }
     requires clock { track.old.work.clock < 2 ^ 63 }
     requires given { is_given op.now (as_given given) ≡ true }
-    requires port { is_port_op op.now ≡ false }
+    requires port { has_port places.now.layout op.now ≡ true }
     requires fed { CanAct places.now.made.items places.now.layout op.now (length track.old.pool.items) }
     ensures seat { StaysSeated places.now track.old.work track.new.work }
     ensures entry { IsActOf result track.old.work.actor op.now (as_given given) places.now.layout track.old.work.clock }

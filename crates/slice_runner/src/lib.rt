@@ -1,7 +1,7 @@
-//! Slices: harts side by side over places that pass from one to another by turns, and one list of events.
+//! Slices: harts and devices side by side over places that pass from one to another by turns, and one list of events.
 //!
 //! `run_slice` moves a world's pages, its ports and its board into a table of turns, lets each hart work in a thread of its own
-//! and the timer beside them, brings everything home, and puts what all of them did in one order. Devices don't act in a slice. The
+//! and the timer and the devices beside them in this one, brings everything home, and puts what all of them did in one order. The
 //! events are a run of the flat machine from the world before to the world after, each with the reply that it got, whoever came
 //! first: the table's rule says so, and nothing is compared. Pages stay marked exactly where events wrote them; each actor has one
 //! stop, with its cause. `specs/Slices.antt` says so, and `specs/Stops.antt` why an actor stops. All room is made before the
@@ -9,6 +9,8 @@
 #![tactic(auto)]
 
 mod acting;
+mod devices;
+mod objects;
 mod places;
 mod room;
 mod running;
@@ -18,6 +20,8 @@ mod staffing;
 mod stop;
 mod worker;
 
+pub use devices::Devices;
+pub use objects::{DeviceObjects, NoObjects};
 pub use slice::{Slice, run_slice};
 pub use stop::{Stop, Stopped};
 pub use worker::ask_clock;

@@ -1,9 +1,10 @@
 // Room for a slice, made before its first step.
 ghost use Rattle.std.specs.Prelude.{◌≡◌, ◌+◌, ◌<◌, ◌≤◌, ◌*◌, ◌^◌, ℕ, [], length, vec_len, vec_capacity, All, IfOk};
-ghost use Rattle.slice_runner.specs.Room.{HasRoom, ForCrew, ForHome, ForPlaces, ForWork};
+ghost use Rattle.slice_runner.specs.Room.{HasRoom, ForCrew, ForHome, ForPlaces, ForPosts, ForWork, actors_in};
 
 use crate::stop::Stopped;
-use crate::worker::HartWorker;
+use crate::worker::{DeviceWorker, HartWorker, Track};
+use guest_devices::Device;
 use guest_pages::{Blank, Slot};
 use hart_rv64::Hart;
 use machine_places::MachinePlace;
@@ -22,30 +23,49 @@ pub struct PlaceRoom {
     pub ports: Vec<Port>,
 }
 
-/// Empty lists for harts that go to work and for passes that are left, and an empty journal and a pool of blanks for each actor.
+/// How many harts and devices act in a slice, and how many passes there are.
+#[derive(Clone, Copy, Drop)]
+pub struct Counts {
+    pub harts: usize,
+    pub devices: usize,
+    pub passes: usize,
+}
+
+/// Empty lists for what actors do and for passes that are left, and an empty journal and a pool of blanks for each actor.
 #[derive(Drop)]
 pub struct WorkRoom<Q> {
-    pub workers: Vec<HartWorker<Q>>,
+    pub tracks: Vec<Track<Q>>,
     pub left: Vec<Q>,
     pub blank: Vec<Vec<Entry>>,
     pub pools: Vec<Vec<Blank>>,
 }
 
-/// Empty lists for harts that come back with the journals, the stops and the blanks of all actors.
+/// Empty lists for harts and devices that go to work, and for what all actors did.
+#[derive(Drop)]
+pub struct PostRoom<Q> {
+    pub workers: Vec<HartWorker<Q>>,
+    pub devices: Vec<DeviceWorker<Q>>,
+    pub tracks: Vec<Track<Q>>,
+}
+
+/// Empty lists for harts and devices that come back with the journals, the stops and the blanks of all actors.
 #[derive(Drop)]
 pub struct HomeRoom {
     pub harts: Vec<Hart>,
+    pub devices: Vec<Device>,
     pub journals: Vec<Journal>,
     pub stops: Vec<Stopped>,
     pub pools: Vec<Vec<Blank>>,
 }
 
-/// Room for what the actors of a slice move and write down: as they go to work and come home, and for all events.
+/// Room for what the actors of a slice move and write down: as they go to work and come home, for devices that rest, and for all events.
 #[derive(Drop)]
 pub struct CrewRoom<Q> {
     pub work: WorkRoom<Q>,
+    pub posts: PostRoom<Q>,
     pub passes: Vec<Q>,
     pub home: HomeRoom,
+    pub resting: Vec<Device>,
     pub events: Vec<Entry>,
 }
 
@@ -88,25 +108,34 @@ impl PlaceRoom {
     }
 }
 
+impl Counts {
+    /// The timer, the harts and the devices.
+    pub fn actors(self) -> usize
+        requires { (self.harts ≤ 32) × (self.devices ≤ 16) }
+        ensures { result ≡ actors_in self }
+    {
+        self.harts + (self.devices + 1)
+    }
+}
+
 impl<Q: Drop> WorkRoom<Q> {
     fn new(
         alloc: Global,
-        harts: usize,
-        passes: usize,
+        counts: Counts,
         n: usize,
         pools: Vec<Vec<Blank>>,
     ) -> Result<WorkRoom<Q>, AllocError>
-        requires harts { harts ≤ 32 }
-        requires pools { length pools.items ≡ harts + 1 }
+        requires few { (counts.harts ≤ 32) × (counts.devices ≤ 16) }
+        requires pools { length pools.items ≡ actors_in counts }
         ensures room { IfOk result (λ room. (blanks : ℕ) → All (λ pool. length pool.items ≡ blanks) pools.items →
-            ForWork harts passes blanks room) }
+            ForWork (actors_in counts) counts.passes blanks room) }
         ensures entries { IfOk result (λ room. All (λ journal. n ≤ vec_capacity journal) room.blank.items) }
     {
-        let workers = Vec::with_capacity(alloc, harts)?;
-        let left = Vec::with_capacity(alloc, passes)?;
-        let blank = blank_journals(alloc, harts + 1, n)?;
+        let tracks = Vec::with_capacity(alloc, counts.actors())?;
+        let left = Vec::with_capacity(alloc, counts.passes)?;
+        let blank = blank_journals(alloc, counts.actors(), n)?;
         Ok(WorkRoom {
-            workers,
+            tracks,
             left,
             blank,
             pools,
@@ -114,17 +143,35 @@ impl<Q: Drop> WorkRoom<Q> {
     }
 }
 
-impl HomeRoom {
-    fn new(alloc: Global, harts: usize) -> Result<HomeRoom, AllocError>
-        requires { harts ≤ 32 }
-        ensures { IfOk result (λ room. ForHome harts room) }
+impl<Q: Drop> PostRoom<Q> {
+    fn new(alloc: Global, counts: Counts) -> Result<PostRoom<Q>, AllocError>
+        requires few { (counts.harts ≤ 32) × (counts.devices ≤ 16) }
+        ensures { IfOk result (λ room. ForPosts counts room) }
     {
-        let harts_home = Vec::with_capacity(alloc, harts)?;
-        let journals = Vec::with_capacity(alloc, harts + 1)?;
-        let stops = Vec::with_capacity(alloc, harts + 1)?;
-        let pools = Vec::with_capacity(alloc, harts + 1)?;
+        let workers = Vec::with_capacity(alloc, counts.harts)?;
+        let devices = Vec::with_capacity(alloc, counts.devices)?;
+        let tracks = Vec::with_capacity(alloc, counts.actors())?;
+        Ok(PostRoom {
+            workers,
+            devices,
+            tracks,
+        })
+    }
+}
+
+impl HomeRoom {
+    fn new(alloc: Global, counts: Counts) -> Result<HomeRoom, AllocError>
+        requires few { (counts.harts ≤ 32) × (counts.devices ≤ 16) }
+        ensures { IfOk result (λ room. ForHome counts room) }
+    {
+        let harts = Vec::with_capacity(alloc, counts.harts)?;
+        let devices = Vec::with_capacity(alloc, counts.devices)?;
+        let journals = Vec::with_capacity(alloc, counts.actors())?;
+        let stops = Vec::with_capacity(alloc, counts.actors())?;
+        let pools = Vec::with_capacity(alloc, counts.actors())?;
         Ok(HomeRoom {
-            harts: harts_home,
+            harts,
+            devices,
             journals,
             stops,
             pools,
@@ -135,48 +182,49 @@ impl HomeRoom {
 impl<Q: Drop> CrewRoom<Q> {
     fn new(
         alloc: Global,
-        harts: usize,
-        passes: usize,
+        counts: Counts,
         n: u32,
         pools: Vec<Vec<Blank>>,
     ) -> Result<CrewRoom<Q>, AllocError>
-        requires harts { harts ≤ 32 }
-        requires pools { length pools.items ≡ harts + 1 }
+        requires few { (counts.harts ≤ 32) × (counts.devices ≤ 16) }
+        requires pools { length pools.items ≡ actors_in counts }
         ensures { IfOk result (λ room. (blanks : ℕ) → All (λ pool. length pool.items ≡ blanks) pools.items →
-            ForCrew harts passes n blanks room) }
+            ForCrew counts n blanks room) }
     {
-        let work = WorkRoom::new(alloc, harts, passes, n as usize, pools)?;
-        let used = Vec::with_capacity(alloc, passes)?;
-        let home = HomeRoom::new(alloc, harts)?;
-        let events = Vec::with_capacity(alloc, (harts + 1) * n as usize)?;
+        let work = WorkRoom::new(alloc, counts, n as usize, pools)?;
+        let posts = PostRoom::new(alloc, counts)?;
+        let passes = Vec::with_capacity(alloc, counts.passes)?;
+        let home = HomeRoom::new(alloc, counts)?;
+        let events = Vec::with_capacity(alloc, counts.actors() * n as usize)?;
         Ok(CrewRoom {
             work,
-            passes: used,
+            posts,
+            passes,
             home,
+            resting: Vec::new(alloc),
             events,
         })
     }
 }
 
 impl<Q: Drop> Room<Q> {
-    /// Room for so many pages, ports, harts and passes, and for so many steps of each actor, with these pools for the actors.
+    /// Room for so many pages, ports, harts, devices and passes, and for so many steps of each actor, with these pools for the actors.
     pub fn new(
         alloc: Global,
         layout: Layout,
-        harts: usize,
-        passes: usize,
+        counts: Counts,
         n: u32,
         pools: Vec<Vec<Blank>>,
     ) -> Result<Room<Q>, AllocError>
         requires pages { layout.pages ≤ 2 ^ 28 }
         requires ports { layout.ports ≤ 255 }
-        requires harts { harts ≤ 32 }
-        requires pools { length pools.items ≡ harts + 1 }
+        requires few { (counts.harts ≤ 32) × (counts.devices ≤ 16) }
+        requires pools { length pools.items ≡ actors_in counts }
         ensures { IfOk result (λ room. (blanks : ℕ) → All (λ pool. length pool.items ≡ blanks) pools.items →
-            HasRoom layout.pages layout.ports harts passes n blanks room) }
+            HasRoom layout.pages layout.ports counts n blanks room) }
     {
         let places = PlaceRoom::new(alloc, layout.pages as usize, usize::from(layout.ports))?;
-        let crew = CrewRoom::new(alloc, harts, passes, n, pools)?;
+        let crew = CrewRoom::new(alloc, counts, n, pools)?;
         Ok(Room { places, crew })
     }
 }

@@ -16,6 +16,8 @@ pub enum Stop {
     Stamp,
     /// Its want is on a page that wasn't made when the slice began, and its blanks are used up.
     Blanks,
+    /// Nothing answers its want: its port isn't there, or no object that is lent answers such a call.
+    Unanswered,
 }
 
 /// An actor's stop.

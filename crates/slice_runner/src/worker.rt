@@ -1,23 +1,26 @@
 // Actors at work, each with its pass and its journal.
 ghost use Rattle.std.specs.Prelude.{◌≡◌, ◌+◌, ◌<◌, ◌^◌, ℕ, true, false, length, vec_len, vec_capacity, IfNone, IfSome, MatchOption};
 ghost use Rattle.vm_types.specs.declared.ids.ActorId.{ActorId};
-ghost use Rattle.hart_trace.specs.Asks.{is_port_op};
 ghost use Rattle.hart_trace.specs.States.{Hart as HartValue, hart_next, hart_wants};
 ghost use Rattle.timer_trace.specs.States.{timer_next, timer_wants};
 ghost use Rattle.timer_trace.specs.declared.timer.Timer.{Timer as TimerValue};
+ghost use Rattle.guest_devices.specs.Devices.{DeviceLeft, device_next, device_wants};
+ghost use Rattle.guest_devices.specs.Kept.{device_left};
 ghost use Rattle.flat_guest.specs.Given.{as_given};
 ghost use Rattle.flat_guest.specs.Steps.{is_given};
 ghost use Rattle.pause_gate.specs.Tally.{Tally};
 ghost use Rattle.vm_host.specs.Telling.{ClockKnown};
 ghost use Rattle.slice_runner.specs.Blanks.{CanAct};
-ghost use Rattle.slice_runner.specs.Runs.{Begins, GoesOn, HartWorked, HasAnswered, HasEnded, IsActOf, IsAsked, IsSameBut};
-ghost use Rattle.slice_runner.specs.Runs.{IsUnderWay, StopsFor, TimerWorked, WritesDown};
+ghost use Rattle.slice_runner.specs.Runs.{AreAnswered, Begins, DeviceWorked, GoesOn, HartWorked, HasAnswered, HasEnded, IsActOf, IsAsked};
+ghost use Rattle.slice_runner.specs.Runs.{IsGivenBy, IsSameBut, IsUnderWay, StopsFor, TimerWorked, WritesDown, can_be_done, has_port};
 ghost use Rattle.slice_runner.specs.Seats.{IsSeated, StaysSeated};
 ghost use Rattle.slice_runner.specs.Slices.{answers_of};
 
 use crate::acting::act_once;
+use crate::objects::DeviceObjects;
 use crate::places::Places;
 use crate::stop::Stop;
+use guest_devices::Device;
 use guest_pages::Blank;
 use hart_rv64::Hart;
 use machine_places::MachinePlace;
@@ -50,6 +53,14 @@ pub struct HartWorker<Q> {
 #[derive(Drop)]
 pub struct TimerWorker<Q> {
     pub timer: Timer,
+    pub track: Track<Q>,
+}
+
+/// A device at work, and its number.
+#[derive(Drop)]
+pub struct DeviceWorker<Q> {
+    pub number: u8,
+    pub device: Device,
     pub track: Track<Q>,
 }
 
@@ -95,7 +106,7 @@ impl<Q> Track<Q> {
         requires room { (vec_len self.old.work.journal < vec_capacity self.old.work.journal) × (vec_len self.old.work.journal < 2 ^ 32) }
         requires clock { self.old.work.clock < 2 ^ 63 }
         requires given { is_given op.now (as_given given) ≡ true }
-        requires port { is_port_op op.now ≡ false }
+        requires port { has_port places.now.layout op.now ≡ true }
         requires fed { CanAct places.now.made.items places.now.layout op.now (length self.old.pool.items) }
         ensures seat { StaysSeated places.now self.old.work self.new.work }
         ensures entry { IsActOf result self.old.work.actor op.now (as_given given) places.now.layout self.old.work.clock }
@@ -226,6 +237,103 @@ impl<Q> TimerWorker<Q> {
     {
         for _step in 0..n {
             if let Some(stop) = self.step(rt, gate, places, clock) {
+                self.track.stop = stop;
+                return;
+            }
+        }
+        self.track.stop = Stop::Steps;
+    }
+}
+
+// Whether an act has an answer: its port is there, or the objects answer such a call.
+fn is_answered<O: DeviceObjects>(objects: &O, places: &Places, op: &Op) -> bool
+    ensures { result ≡ can_be_done O.calls places.now.layout op.now }
+{
+    match op {
+        Op::Port { port, act: _ } => *port < places.layout.ports,
+        Op::Out(act) => objects.is_call(act),
+        _ => true,
+    }
+}
+
+// What the objects answer the device with this number, if it calls them.
+fn ask_object<O: DeviceObjects>(
+    objects: &mut O,
+    places: &Places,
+    device: u8,
+    op: &Op,
+) -> Option<Reply>
+    requires { can_be_done O.calls places.now.layout op.now ≡ true }
+    ensures { IsGivenBy O.Answers device op.now (O.known objects.old) result (O.known objects.new) }
+{
+    match op {
+        Op::Out(act) => Some(objects.answer(device, act)),
+        _ => None,
+    }
+}
+
+impl<Q> DeviceWorker<Q> {
+    // The next step, or why none is made.
+    fn step<R: Wait, O: DeviceObjects, G: Gate<Pass = Q>>(
+        &mut self,
+        rt: &R,
+        gate: &G,
+        places: &Places,
+        objects: &mut O,
+    ) -> Option<Stop>
+        requires pass { G.serves gate.now self.old.track.pass }
+        requires seat { IsSeated places.now self.old.track.work }
+        requires room { (vec_len self.old.track.work.journal < vec_capacity self.old.track.work.journal)
+            × (vec_len self.old.track.work.journal < 2 ^ 32) }
+        ensures pass { G.serves gate.now self.new.track.pass }
+        ensures seat { StaysSeated places.now self.old.track.work self.new.track.work }
+        ensures room { vec_capacity self.new.track.work.journal ≡ vec_capacity self.old.track.work.journal }
+        ensures one { IfNone result (vec_len self.new.track.work.journal ≡ vec_len self.old.track.work.journal + 1) }
+        ensures went { IfNone result ((id : ActorId) (s : DeviceLeft) (c : Tally) (blanks : ℕ) →
+            IsUnderWay device_wants device_next G.tally places.now.layout id s c blanks (device_left self.old.device) self.old.track →
+            IsUnderWay device_wants device_next G.tally places.now.layout id s c blanks (device_left self.new.device) self.new.track) }
+        ensures ended { IfSome result (λ stop. (id : ActorId) (s : DeviceLeft) (c : Tally) (n blanks : ℕ) →
+            IsUnderWay device_wants device_next G.tally places.now.layout id s c blanks (device_left self.old.device) self.old.track →
+            vec_len self.old.track.work.journal < n →
+            HasEnded device_wants device_next G.tally places.now.layout places.now.made.items id s c n blanks (device_left self.new.device) self.new.track stop) }
+        ensures number { self.new.number ≡ self.old.number }
+        ensures answers { (start : O.Known) →
+            AreAnswered O.Answers self.old.number start self.old.track.work.journal.items (O.known objects.old) →
+            AreAnswered O.Answers self.old.number start self.new.track.work.journal.items (O.known objects.new) }
+    {
+        let op = self.device.want();
+        if !is_answered(objects, places, &op) {
+            return Some(Stop::Unanswered);
+        }
+        if let Some(stop) = self.track.stops(gate, places, &op) {
+            return Some(stop);
+        }
+        let given = ask_object(objects, places, self.number, &op);
+        let entry = self.track.act(rt, gate, places, &op, given);
+        self.device.give(entry.reply);
+        None
+    }
+
+    /// So many steps at most, the gate asked before each.
+    pub fn run<R: Wait, O: DeviceObjects, G: Gate<Pass = Q>>(
+        &mut self,
+        rt: &R,
+        gate: &G,
+        places: &Places,
+        n: u32,
+        objects: &mut O,
+    )
+        requires pass { G.serves gate.now self.old.track.pass }
+        requires seat { IsSeated places.now self.old.track.work }
+        requires begins { Begins n (length self.old.track.pool.items) self.old.track }
+        ensures pass { G.serves gate.now self.new.track.pass }
+        ensures seat { StaysSeated places.now self.old.track.work self.new.track.work }
+        ensures worked { DeviceWorked G.tally places.now.layout places.now.made.items n self.old self.new }
+        ensures number { self.new.number ≡ self.old.number }
+        ensures answers { AreAnswered O.Answers self.old.number (O.known objects.old) self.new.track.work.journal.items (O.known objects.new) }
+    {
+        for _step in 0..n {
+            if let Some(stop) = self.step(rt, gate, places, objects) {
                 self.track.stop = stop;
                 return;
             }

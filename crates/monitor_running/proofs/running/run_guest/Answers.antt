@@ -41,7 +41,7 @@ returns-clause-paced g c = λ several none.
       mid = c.slice_by.new.world;
       serial = c.in-Ok.ensures.serial;
       stopped =
-          subst (λ (n : ℕ). AreStopped g.G.Gate.tally n c.args.world.now c.in-Ok.slice.events.items c.slice_by.new.world c.in-Ok.slice.stops.items
+          subst (λ (n : ℕ). AreStopped g.G.Gate.tally n 0 c.args.world.now c.in-Ok.slice.events.items c.slice_by.new.world c.in-Ok.slice.stops.items
           c.args.steering.now.passes.items c.slice_by.new.passes.items) c.steps_each-each.ensures c.in-Ok.ensures.stops;
       drained = c.tell_slice-end.ensures.world;
     })

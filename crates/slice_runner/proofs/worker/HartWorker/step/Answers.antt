@@ -5,6 +5,7 @@ use Rattle.hart_trace.proofs.Asks.{never_host, never_port}
 use Rattle.turn_work.specs.declared.worker.Worker.{Worker}
 use Rattle.machine_places.specs.declared.place.MachinePlace.{MachinePlace}
 use Rattle.slice_runner.specs.Seats.{IsSeated}
+use Rattle.slice_runner.proofs.Routes.{no_port_op}
 use Rattle.slice_runner.proofs.Seats.{seated_after, seated_same}
 use Rattle.slice_runner.proofs.Working.{none_given, went}
 use Rattle.slice_runner.proofs.worker.HartWorker.step.Goals as goal
@@ -14,7 +15,8 @@ act-entry-requires-clause-given g c =
     none_given c.want-op.result _ c.want-op.ensures (never_host c.args.self.now.hart)
 
 pub act-entry-requires-clause-port : goal.act-entry-requires-clause-port
-act-entry-requires-clause-port g c = ap is_port_op c.want-op.ensures ∙ never_port c.args.self.now.hart
+act-entry-requires-clause-port g c =
+    no_port_op c.args.places.now.layout c.want-op.result (ap is_port_op c.want-op.ensures ∙ never_port c.args.self.now.hart)
 
 pub act-entry-requires-clause-seat : goal.act-entry-requires-clause-seat
 act-entry-requires-clause-seat g c =
