@@ -10,14 +10,13 @@ use crate::sessions::{no_link, no_vsock, no_words};
 use crate::showing::text_of;
 use crate::ticking::Ticks;
 use monitor_machine::LiveMachine;
-use monitor_running::{Pace, Ran, Steering, TracedHost, run_while};
+use monitor_running::{DeviceHost, Pace, Ran, Steering, TracedHost, TurnHost, run_while};
 use outside_mem::{Failing, MemoryDisk, MemoryGuestWords, MemoryLink, MemorySink, MemoryVsock};
 use pause_gate::{FlagGate, Gate, HoldGate, Party, Pass};
 use std::alloc::{AllocError, Global};
 use std::io;
 use std::sync::Wait;
 use std::thread::Threads;
-use vm_host::Host;
 use vm_types::{ActorId, PlaceId};
 use vm_world::World;
 
@@ -190,12 +189,17 @@ fn player_of<'a>(alloc: Global, row: &Row, gate: &'a HoldGate) -> Result<Player<
 }
 
 // Without a disk, a link or a socket.
-fn host_of(alloc: Global) -> Host<MemoryDisk, MemoryLink, MemoryVsock, MemoryGuestWords, Ticks> {
-    Host {
+fn host_of(
+    alloc: Global,
+) -> TurnHost<MemoryDisk, MemoryLink, MemoryVsock, MemoryGuestWords, Ticks> {
+    let devices = DeviceHost {
         disk: MemoryDisk::new(alloc, Vec::new(alloc), Failing::new(Vec::new(alloc))),
         link: no_link(alloc),
         vsock: no_vsock(alloc),
         guest_words: no_words(alloc),
+    };
+    TurnHost {
+        devices,
         clock: Ticks::new(100),
     }
 }

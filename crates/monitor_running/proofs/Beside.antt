@@ -1,0 +1,101 @@
+-- Devices that act in a slice.
+use Rattle.std.proofs.Common.{◌≡◌, ◌<◌, ◌≤◌, ◌+◌, ℕ, zero, suc, Bool, true, false, ◌&&◌, cond, refl, sym, subst, arith, List, [], ◌∷◌, All, length}
+use Rattle.std.specs.Prelude.{nat_le, nat_lt, if◌then◌else◌}
+use Rattle.std.specs.List.{AllByRecursion}
+use Rattle.std.proofs.lemmas.List.Elements.{recursion_from_All}
+use Rattle.vm_types.specs.Ids.{of_actor, same_actor}
+use Rattle.vm_types.specs.declared.entry.Entry.{Entry}
+use Rattle.vm_types.specs.declared.ids.ActorId.{ActorId}
+use Rattle.vm_types.specs.declared.op.Op.{Op}
+use Rattle.vm_types.specs.declared.reply.Reply.{Reply}
+use Rattle.vm_world.specs.Worlds.{WorldValue}
+use Rattle.slice_runner.specs.Runs.{AreAnswered, IsAnswered}
+use Rattle.slice_runner.specs.Slices.{DevicesAnswered, IsThere}
+use Rattle.monitor_machine.specs.Kinds.{DevicesKnown}
+use Rattle.monitor_running.specs.Devices.{AnswersDevice, AsksDevices, IsHeard, IsShort, WereAsked}
+use Rattle.monitor_running.specs.Happened.{HasPort, HavePorts}
+use Rattle.monitor_running.specs.Paced.{acting_in}
+use Rattle.monitor_running.proofs.Attached.{ports_there}
+use Rattle.monitor_running.proofs.Events.{asks_none, asks_nothing, rests_of, unasked_there}
+use Rattle.monitor_running.proofs.OneKind.{IsOther}
+
+-- ---- how many act
+
+few_by : (n : ℕ) (few more : Bool) → nat_le n 1 ≡ few → (if few && more then n else 0) ≤ 1
+few_by n true true is = grind (arith, is)
+few_by n true false is = omega arith
+few_by n false more is = omega arith
+
+pub few_act : (there : ℕ) (w : WorldValue) → acting_in there w ≤ 1
+few_act there w = few_by (length w.devices) (nat_le (length w.devices) 1) (nat_lt (length w.harts + length w.devices) there) refl
+
+fit_by : (harts n there : ℕ) (few more : Bool) → nat_lt (harts + n) there ≡ more → harts + 1 ≤ there
+    → harts + ((if few && more then n else 0) + 1) ≤ there
+fit_by harts n there true true is some = grind (arith, is)
+fit_by harts n there true false is some = omega (arith, some)
+fit_by harts n there false more is some = omega (arith, some)
+
+-- each of them has a pass
+pub act_fits : (there : ℕ) (w : WorldValue) → length w.harts + 1 ≤ there → length w.harts + (acting_in there w + 1) ≤ there
+act_fits there w some =
+    fit_by (length w.harts) (length w.devices) there (nat_le (length w.devices) 1) (nat_lt (length w.harts + length w.devices) there) refl some
+
+-- ---- what an event of one asks
+
+answered : (op : Op) (reply : Reply) (old new : DevicesKnown) → IsAnswered AnswersDevice 0 op reply old new
+    → AsksDevices op (ActorId.Device 0) reply old new × IsShort op reply
+answered (Op.Out act) reply old new it = (it.1, it.0)
+answered op reply old new it = (asks_nothing op (ActorId.Device 0) reply old new refl it, tt)
+
+-- what one event left, and the answers behind it
+record Asked (e : Entry) (rest : List Entry) (old new : DevicesKnown) : Type 0 where
+  mid : DevicesKnown
+  asks : AsksDevices e.op e.actor e.reply old mid
+  behind : AreAnswered AnswersDevice 0 mid rest new
+  port : HasPort e.actor
+  heard : IsHeard e.actor e.op e.reply
+
+other_asked : (e : Entry) (rest : List Entry) (old new : DevicesKnown) (actor : ActorId) → e.actor ≡ actor → IsOther actor → HasPort actor
+    → IsHeard actor e.op e.reply → AreAnswered AnswersDevice 0 old rest new → Asked e rest old new
+other_asked e rest old new actor is other port heard was = record {
+  mid = old;
+  asks = asks_none e.op e.actor e.reply old (subst IsOther (sym is) other);
+  behind = was;
+  port = subst HasPort (sym is) port;
+  heard = subst (λ (a : ActorId). IsHeard a e.op e.reply) (sym is) heard;
+}
+
+one_asked : (harts : ℕ) (e : Entry) (rest : List Entry) (old new : DevicesKnown) (actor : ActorId) → e.actor ≡ actor → IsThere harts 1 actor
+    → AreAnswered AnswersDevice 0 old (cond (same_actor actor (ActorId.Device 0)) (e ∷ rest) rest) new → Asked e rest old new
+one_asked harts e rest old new ActorId.Timer is there was = other_asked e rest old new ActorId.Timer is tt tt tt was
+one_asked harts e rest old new (ActorId.Hart k) is there was = other_asked e rest old new (ActorId.Hart k) is tt tt tt was
+one_asked harts e rest old new (ActorId.Device zero) is there was =
+    let one = answered e.op e.reply old was.0 was.1 in record {
+      mid = was.0;
+      asks = subst (λ (a : ActorId). AsksDevices e.op a e.reply old was.0) (sym is) one.0;
+      behind = was.2;
+      port = subst HasPort (sym is) (omega arith);
+      heard = subst (λ (a : ActorId). IsHeard a e.op e.reply) (sym is) one.1;
+    }
+one_asked harts e rest old new (ActorId.Device (suc k)) is there was = absurd (omega (arith, there))
+
+-- ---- and all events of a slice
+
+alone_asked : (harts : ℕ) (es : List Entry) (old new : DevicesKnown) → AllByRecursion (λ (e : Entry). IsThere harts 1 e.actor) es
+    → AreAnswered AnswersDevice 0 old (of_actor (ActorId.Device 0) es) new → WereAsked old es new × HavePorts es
+alone_asked harts [] old new there was = (rests_of old new was, tt)
+alone_asked harts (e ∷ es) old new there was =
+    let one = one_asked harts e (of_actor (ActorId.Device 0) es) old new e.actor refl there.0 was in
+    let rest = alone_asked harts es one.mid new there.1 one.behind in
+    ((one.mid, one.asks, rest.0), ((one.port, one.heard), rest.1))
+
+-- the objects answered in the order of the events
+pub slice_asked : (harts devices : ℕ) (es : List Entry) (old new : DevicesKnown) → devices ≤ 1
+    → All (λ (e : Entry). IsThere harts devices e.actor) es → DevicesAnswered AnswersDevice es 0 devices old new
+    → WereAsked old es new × HavePorts es
+slice_asked harts zero es old new few there was =
+    (subst (λ (now : DevicesKnown). WereAsked old es now) (sym was) (unasked_there harts es old there), ports_there harts es there)
+slice_asked harts (suc zero) es old new few there was =
+    alone_asked harts es old new (recursion_from_All (λ (e : Entry). IsThere harts 1 e.actor) es there)
+    (subst (λ (now : DevicesKnown). AreAnswered AnswersDevice 0 old (of_actor (ActorId.Device 0) es) now) (sym was.2) was.1)
+slice_asked harts (suc (suc n)) es old new few there was = absurd (omega (arith, few))
