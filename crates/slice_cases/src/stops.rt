@@ -29,10 +29,12 @@ const WRITES_TO_PAGES: [u8; 20] = [
     0x6f, 0xf0, 0x9f, 0xff,
 ];
 
-/// How far a hart runs, and three slices: at a closed gate, one in which the ring is filled, and one in which blanks are used up.
+/// How far a hart runs, and four slices: at a closed gate, one in which the ring is filled, one in which devices act, and one in which
+/// blanks are used up.
 pub fn print<R: Threads + Wait + Print + AllocGlobal + Sync>(rt: &R) -> io::Result<()> {
     print_off(rt)?;
     print_slices(rt)?;
+    print_devices(rt)?;
     print_blanks(rt)
 }
 
@@ -59,6 +61,47 @@ fn print_slices<R: Threads + Wait + Print + AllocGlobal + Sync>(rt: &R) -> io::R
     gate.open(&mut closer);
     print_slice(rt, "at an open one", &mut world, &gate, &mut passes)?;
     print_world(rt, &world)
+}
+
+// The devices act beside the harts: each looks at its port, and then waits for a driver.
+fn print_devices<R: Threads + Wait + Print + AllocGlobal + Sync>(rt: &R) -> io::Result<()> {
+    let (gate, mut passes) = FlagGate::new(rt.alloc(), 5)?;
+    let Some(mut world) = two_drives(rt.alloc(), &FILLS_THE_RING) else {
+        return println!(rt; "no world");
+    };
+    if world.hart_count() > 2 || world.devices().len() > 2 || passes.len() < 5 {
+        return println!(rt; "too few passes");
+    }
+    let Ok(slice) = run_slice(
+        rt,
+        rt.alloc(),
+        &mut world,
+        &mut clock(),
+        &mut NoObjects,
+        Devices::Act,
+        &gate,
+        &mut passes,
+        1_000,
+    ) else {
+        return println!(rt; "no slice");
+    };
+    println!(rt;
+        "devices: their stops => {:?} {:?}",
+        stop_of(&slice, 3),
+        stop_of(&slice, 4)
+    )?;
+    println!(rt; "devices: their events => {}", device_events(&slice))
+}
+
+// How many there are of devices.
+fn device_events(slice: &Slice) -> usize {
+    let mut count: usize = 0;
+    for event in slice.events.iter() {
+        if matches!(event.actor, ActorId::Device(_)) {
+            count = count.wrapping_add(1);
+        }
+    }
+    count
 }
 
 // The image's page alone is made at first. An actor has 256 blanks.

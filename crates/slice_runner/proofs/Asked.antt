@@ -1,17 +1,15 @@
 -- What objects answered a device, entry by entry.
-use Rattle.std.proofs.Common.{◌≡◌, ℕ, refl, sym, ap, ◌∙◌, subst, true, Bool, List, [], ◌∷◌, ◌++◌, Option, Some, None}
+use Rattle.std.proofs.Common.{◌≡◌, ℕ, refl, sym, ap, ◌∙◌, subst, true, Bool, List, [], ◌∷◌, ◌++◌, Option}
 use Rattle.vm_types.specs.declared.entry.Entry.{Entry}
 use Rattle.vm_types.specs.declared.op.Op.{Op}
 use Rattle.vm_types.specs.declared.op.OutOp.{OutOp}
 use Rattle.vm_types.specs.declared.reply.Reply.{Reply}
-use Rattle.vm_types.specs.Fits.{out_fits}
 use Rattle.vm_types.specs.Ids.{is_out}
 use Rattle.flat_guest.specs.Body.{out_reply}
 use Rattle.flat_guest.specs.Given.{as_given}
 use Rattle.flat_guest.specs.Steps.{is_given}
 use Rattle.stamp_merge.specs.declared.layout.Layout.{Layout}
 use Rattle.slice_runner.specs.Runs.{AreAnswered, IsAnswered, IsGivenBy, can_be_done, has_port}
-use Rattle.slice_runner.specs.Stops.{may_lack}
 use Rattle.slice_runner.specs.Values.{route_among}
 
 module _ {K : Type 0} (Answers : ℕ → OutOp → Reply → K → K → Type 0) (k : ℕ) where

@@ -1,7 +1,7 @@
 -- The actors of a slice as one list, each from where it stood to where it stands.
 use Rattle.std.proofs.Common.{◌≡◌, ℕ, zero, suc, ◌+◌, ◌-◌, ◌<◌, ◌≤◌, nat_lt, Bool, true, false, cond, refl, sym, ap, ◌∙◌, subst, arith}
-use Rattle.std.proofs.Common.{List, [], ◌∷◌, ◌++◌, length, map, get_or, slice_get, slice_index_or, Option, Some, None}
-use Rattle.std.proofs.lemmas.Bool.{eq-eqb, lt-ltb, ltb-false, ltb-true}
+use Rattle.std.proofs.Common.{List, [], ◌∷◌, ◌++◌, length, map, get_or, slice_get, slice_index_or, Some}
+use Rattle.std.proofs.lemmas.Bool.{lt-ltb, ltb-false, ltb-true}
 use Rattle.vm_types.specs.declared.entry.Entry.{Entry}
 use Rattle.vm_types.specs.declared.ids.ActorId.{ActorId}
 use Rattle.vm_types.specs.declared.op.OutOp.{OutOp}
@@ -16,7 +16,6 @@ use Rattle.hart_trace.specs.Stopped.{stopped_regs}
 use Rattle.timer_trace.specs.declared.timer.Timer.{Timer}
 use Rattle.timer_trace.specs.States.{timer_next, timer_wants}
 use Rattle.pause_gate.specs.Tally.{Tally}
-use Rattle.stamp_merge.specs.declared.layout.Layout.{Layout}
 use Rattle.stamp_merge.proofs.Serial.{same_actor-refl}
 use Rattle.vm_host.specs.Telling.{ClockKnown}
 use Rattle.slice_runner.specs.declared.places.Places.{Places}

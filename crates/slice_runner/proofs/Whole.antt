@@ -20,7 +20,6 @@ use Rattle.guest_pages.specs.Made.{made_of}
 use Rattle.guest_pages.specs.Flat.{ArePages}
 use Rattle.guest_pages.specs.Pages.{PageValue}
 use Rattle.hart_trace.specs.States.{Hart}
-use Rattle.flat_guest.specs.Guest.{Guest}
 use Rattle.pause_gate.specs.Tally.{Tally}
 use Rattle.port_table.specs.declared.state.PortState.{PortState}
 use Rattle.stamp_merge.specs.declared.layout.Layout.{Layout}
@@ -41,7 +40,7 @@ use Rattle.machine_places.specs.Acts.{IsMade, touch as place_touch}
 use Rattle.machine_places.specs.Laid.{AreLaid, ArePlaces, index_among}
 use Rattle.machine_places.proofs.Indexing.{are_apart}
 use Rattle.vm_host.specs.Telling.{AreNext, ClockKnown}
-use Rattle.vm_world.specs.Worlds.{IsWorld, WorldValue, want_in, world_with}
+use Rattle.vm_world.specs.Worlds.{WorldValue, want_in, world_with}
 use Rattle.slice_runner.specs.declared.places.Places.{Places}
 use Rattle.slice_runner.specs.declared.stop.Stop.{Stop}
 use Rattle.slice_runner.specs.declared.stop.Stopped.{Stopped}

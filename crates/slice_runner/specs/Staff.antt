@@ -1,8 +1,6 @@
 -- Actors that go to work, and come back.
 use Rattle.std.specs.Prelude.{ℕ, suc, ◌≡◌, All, List, [], ◌∷◌, ◌++◌, map}
-use Rattle.vm_types.specs.declared.ids.ActorId.{ActorId}
 use Rattle.hart_trace.specs.States.{Hart}
-use Rattle.timer_trace.specs.declared.timer.Timer.{Timer}
 use Rattle.guest_devices.specs.declared.device.Device.{Device}
 use Rattle.stamp_merge.specs.declared.journal.Journal.{Journal}
 use Rattle.turn_table.specs.declared.view.Round.{Round}

@@ -2,15 +2,15 @@ use Rattle.std.proofs.Common.{ap, arith, length, ◌∙◌}
 use Rattle.stamp_merge.specs.declared.layout.Layout.{Layout}
 use Rattle.slice_runner.specs.Opened.{world_of}
 use Rattle.slice_runner.specs.Slices.{acting_of}
-use Rattle.slice_runner.proofs.Around.{acting_around, answered_around, back_around, harts_around, marks_around, put_and_given, room_around, serial_around, stopped_around, there_around}
+use Rattle.slice_runner.proofs.Around.{answered_around, back_around, marks_around, put_and_given, room_around, serial_around, stopped_around, there_around}
 use Rattle.slice_runner.proofs.slice.run_slice.Goals as goal
 
 pub share-requires-clause-room : goal.share-requires-clause-room
 share-requires-clause-room g c κs within =
     let size = c.layout_of-layout.ensures.layout in
     room_around c.args.world.now _ c.take-parts.result _ c.pools_of.ensures.same c.take-parts.ensures.parts c.args.how _ _ _ (length c.args.passes.now.items) _ _ c.in_ok-room.room
-    (ap (λ (l : Layout). l.pages) size) (ap (λ (l : Layout). l.ports) size) c.hart_count.ensures (c.acting.ensures ∙ ap (acting_of c.args.how) (c.len.ensures ∙ ap length c.devices.ensures)) c.blanks_for-blanks.ensures.blanks
-    (omega (arith, c.len-2.ensures, c.args.passes.now.ok))
+    (ap (λ (l : Layout). l.pages) size) (ap (λ (l : Layout). l.ports) size) c.hart_count.ensures (c.acting.ensures ∙ ap (acting_of c.args.how) (ap length c.devices.ensures)) c.blanks_for-blanks.ensures.blanks
+    (omega (arith, c.len.ensures, c.args.passes.now.ok))
     (c.in_ok-room.ensures c.blanks_for-blanks.result c.in_ok-pools.ensures.filled)
 
 pub returns-in-Ok-clause-serial : goal.returns-in-Ok-clause-serial

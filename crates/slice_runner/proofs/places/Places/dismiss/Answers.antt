@@ -1,4 +1,4 @@
-use Rattle.std.proofs.Common.{◌++◌, ◌∷◌, [], vec_len, vec_capacity, ap, ◌∙◌, refl, sym, subst, arith, length, All}
+use Rattle.std.proofs.Common.{◌++◌, ap, ◌∙◌, refl, sym, subst, arith, length, All}
 use Rattle.std.specs.Vec.Iter.{into_iter_items}
 use Rattle.stamp_merge.specs.Journals.{all_of}
 use Rattle.stamp_merge.specs.Merged.{journals_of}

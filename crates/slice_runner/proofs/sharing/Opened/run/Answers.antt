@@ -9,7 +9,7 @@ use Rattle.vm_world.specs.Worlds.{world_with}
 use Rattle.slice_runner.specs.Blanks.{pool_of}
 use Rattle.slice_runner.specs.Room.{ForWork, IsHome}
 use Rattle.slice_runner.specs.Slices.{IsSlice, acting_of}
-use Rattle.slice_runner.specs.Staff.{AreBack, AreHired, AreSeated, devices_of, harts_of, tracks_of}
+use Rattle.slice_runner.specs.Staff.{AreBack, AreHired, AreSeated, tracks_of}
 use Rattle.slice_runner.proofs.Ending.{long_map}
 use Rattle.slice_runner.proofs.Joined.{after_long, after_seated, all_bound, all_many, all_served, as_many, devices_ready, harts_ready, left_served, timer_ready, tracks_long}
 use Rattle.slice_runner.proofs.Shared.{done, left}
@@ -40,7 +40,7 @@ pub run_all-requires-clause-timer : goal.run_all-requires-clause-timer
 run_all-requires-clause-timer g c κs within =
     let serves = g.G.Gate.serves c.args.gate.now in
     let tracks = c.post-crew.ensures.tracks_are in
-    timer_ready serves c.args.self.places c.args.self.seat.me.0.round c.args.steps c.requires.room.0 c.len-count.result _ _ _ _ _
+    timer_ready serves c.args.self.places c.args.self.seat.me.0.round c.args.steps c.requires.room.0 c.len-count.result _ c.post-crew.result.timer c.post-crew.result.workers.items c.post-crew.result.devices.items _
     (subst (λ ts. AreHired c.args.steps c.requires.room.0 c.len-count.result c.replace-given.result.items ts c.hire-hired.result.left.items) (sym tracks) (c.hire-hired.ensures.hired c.args.steps c.requires.room.0 c.requires.room.1.entries c.requires.room.1.work.filled))
     (subst (AreSeated c.args.self.places c.args.self.seat.me.0.round) (sym tracks) c.hire-hired.ensures.seated)
     (subst (λ v. All serves v.items) (sym c.replace-given.ensures.value) c.requires.serve)
@@ -49,7 +49,7 @@ pub run_all-requires-clause-harts : goal.run_all-requires-clause-harts
 run_all-requires-clause-harts g c κs within =
     let serves = g.G.Gate.serves c.args.gate.now in
     let tracks = c.post-crew.ensures.tracks_are in
-    harts_ready serves c.args.self.places c.args.self.seat.me.0.round c.args.steps c.requires.room.0 c.len-count.result _ _ _ _ _
+    harts_ready serves c.args.self.places c.args.self.seat.me.0.round c.args.steps c.requires.room.0 c.len-count.result _ c.post-crew.result.timer c.post-crew.result.workers.items c.post-crew.result.devices.items _
     (subst (λ ts. AreHired c.args.steps c.requires.room.0 c.len-count.result c.replace-given.result.items ts c.hire-hired.result.left.items) (sym tracks) (c.hire-hired.ensures.hired c.args.steps c.requires.room.0 c.requires.room.1.entries c.requires.room.1.work.filled))
     (subst (AreSeated c.args.self.places c.args.self.seat.me.0.round) (sym tracks) c.hire-hired.ensures.seated)
     (subst (λ v. All serves v.items) (sym c.replace-given.ensures.value) c.requires.serve)
@@ -58,7 +58,7 @@ pub run_all-requires-clause-devices : goal.run_all-requires-clause-devices
 run_all-requires-clause-devices g c κs within =
     let serves = g.G.Gate.serves c.args.gate.now in
     let tracks = c.post-crew.ensures.tracks_are in
-    devices_ready serves c.args.self.places c.args.self.seat.me.0.round c.args.steps c.requires.room.0 c.len-count.result _ _ _ _ _
+    devices_ready serves c.args.self.places c.args.self.seat.me.0.round c.args.steps c.requires.room.0 c.len-count.result _ c.post-crew.result.timer c.post-crew.result.workers.items c.post-crew.result.devices.items _
     (subst (λ ts. AreHired c.args.steps c.requires.room.0 c.len-count.result c.replace-given.result.items ts c.hire-hired.result.left.items) (sym tracks) (c.hire-hired.ensures.hired c.args.steps c.requires.room.0 c.requires.room.1.entries c.requires.room.1.work.filled))
     (subst (AreSeated c.args.self.places c.args.self.seat.me.0.round) (sym tracks) c.hire-hired.ensures.seated)
     (subst (λ v. All serves v.items) (sym c.replace-given.ensures.value) c.requires.serve)
@@ -117,8 +117,16 @@ dismiss-requires-clause-home g c =
     let long = after_long serves g.G.Gate.tally g.O.DeviceObjects.Answers c.args.self.places c.args.steps _ _ _ _ _ _ _ _ _ _ c.run_all.ensures.beside c.run_all.ensures.harts in
     let many : length c.args.self.harts.items + (acting_of c.args.how (length c.args.self.devices.items) + 1) ≡ length c.gather-gathered.result.1.items =
     omega (arith, long, ap length c.gather-gathered.ensures.tracks, ap length c.post-crew.ensures.tracks_are, c.hire-hired.ensures.many, c.len-count.ensures, c.args.self.harts.ok.0, c.acting.ensures, ap (acting_of c.args.how) c.len.ensures, ap (acting_of c.args.how) c.args.self.devices.ok.0) in
+    let done : IsHome (length c.gather-gathered.result.1.items) c.args.room.home = subst (λ k. IsHome k c.args.room.home) many c.requires.room.1.home.done in
     subst (λ h. IsHome (length c.gather-gathered.result.1.items) h) (sym c.gather-gathered.ensures.others)
-    (subst (λ k. IsHome k c.args.room.home) many c.requires.room.1.home.done)
+    (record {
+      no_journals = done.no_journals;
+      for_journals = done.for_journals;
+      no_stops = done.no_stops;
+      for_stops = done.for_stops;
+      no_pools = done.no_pools;
+      for_pools = done.for_pools;
+    })
 
 pub close-requires-clause-whole : goal.close-requires-clause-whole
 close-requires-clause-whole g c =
