@@ -1,8 +1,8 @@
 -- Devices that act in a slice.
-use Rattle.std.proofs.Common.{◌≡◌, ◌<◌, ◌≤◌, ◌+◌, ℕ, zero, suc, Bool, true, false, ◌&&◌, cond, refl, sym, subst, arith, List, [], ◌∷◌, All, length}
+use Rattle.std.proofs.Common.{◌≡◌, ◌<◌, ◌≤◌, ◌+◌, ℕ, zero, suc, Bool, true, false, ◌&&◌, cond, inl, refl, sym, subst, arith, List, [], ◌∷◌, All, length}
 use Rattle.std.specs.Prelude.{nat_le, nat_lt, if◌then◌else◌}
 use Rattle.std.specs.List.{AllByRecursion}
-use Rattle.std.proofs.lemmas.List.Elements.{recursion_from_All}
+use Rattle.std.proofs.lemmas.List.Elements.{All-from_recursion, recursion_from_All}
 use Rattle.vm_types.specs.Ids.{of_actor, same_actor}
 use Rattle.vm_types.specs.declared.entry.Entry.{Entry}
 use Rattle.vm_types.specs.declared.ids.ActorId.{ActorId}
@@ -12,9 +12,9 @@ use Rattle.vm_world.specs.Worlds.{WorldValue}
 use Rattle.slice_runner.specs.Runs.{AreAnswered, IsAnswered}
 use Rattle.slice_runner.specs.Slices.{DevicesAnswered, IsThere}
 use Rattle.monitor_machine.specs.Kinds.{DevicesKnown}
-use Rattle.monitor_running.specs.Devices.{AnswersDevice, AsksDevices, IsHeard, IsShort, WereAsked}
+use Rattle.monitor_running.specs.Devices.{AnswersDevice, AsksDevices, IsDevices, IsHeard, IsShort, WereAsked}
 use Rattle.monitor_running.specs.Happened.{HasPort, HavePorts}
-use Rattle.monitor_running.specs.Paced.{acting_in}
+use Rattle.monitor_running.specs.Paced.{HasActed, acting_in}
 use Rattle.monitor_running.proofs.Attached.{ports_there}
 use Rattle.monitor_running.proofs.Events.{asks_none, asks_nothing, rests_of, unasked_there}
 use Rattle.monitor_running.proofs.OneKind.{IsOther}
@@ -39,6 +39,16 @@ fit_by harts n there false more is some = omega (arith, some)
 pub act_fits : (there : ℕ) (w : WorldValue) → length w.harts + 1 ≤ there → length w.harts + (acting_in there w + 1) ≤ there
 act_fits there w some =
     fit_by (length w.harts) (length w.devices) there (nat_le (length w.devices) 1) (nat_lt (length w.harts + length w.devices) there) refl some
+
+-- and none acts before the slice
+pub none_acted : (w : WorldValue) → HasActed w w
+none_acted w = record {
+  events = [];
+  mid = w;
+  serial = λ g is. (g, refl, is);
+  made = λ g is. All-from_recursion IsDevices [] tt;
+  drained = inl refl;
+}
 
 -- ---- what an event of one asks
 
