@@ -2,6 +2,7 @@
 use Rattle.std.proofs.Common.{◌≡◌, ◌<◌, ◌≤◌, ◌+◌, ℕ, zero, suc, Bool, true, false, ◌&&◌, cond, inl, refl, sym, subst, arith, List, [], ◌∷◌, All, length}
 use Rattle.std.specs.Prelude.{nat_le, nat_lt, if◌then◌else◌}
 use Rattle.std.specs.List.{AllByRecursion}
+use Rattle.std.proofs.lemmas.Bool.{leb-true, ltb-true}
 use Rattle.std.proofs.lemmas.List.Elements.{All-from_recursion, recursion_from_All}
 use Rattle.vm_types.specs.Ids.{of_actor, same_actor}
 use Rattle.vm_types.specs.declared.entry.Entry.{Entry}
@@ -22,7 +23,7 @@ use Rattle.monitor_running.proofs.OneKind.{IsOther}
 -- ---- how many act
 
 few_by : (n : ℕ) (few more : Bool) → nat_le n 1 ≡ few → (if few && more then n else 0) ≤ 1
-few_by n true true is = grind (arith, is)
+few_by n true true is = leb-true n 1 is
 few_by n true false is = omega arith
 few_by n false more is = omega arith
 
@@ -31,7 +32,7 @@ few_act there w = few_by (length w.devices) (nat_le (length w.devices) 1) (nat_l
 
 fit_by : (harts n there : ℕ) (few more : Bool) → nat_lt (harts + n) there ≡ more → harts + 1 ≤ there
     → harts + ((if few && more then n else 0) + 1) ≤ there
-fit_by harts n there true true is some = grind (arith, is)
+fit_by harts n there true true is some = let less = ltb-true (harts + n) there is in omega (arith, less)
 fit_by harts n there true false is some = omega (arith, some)
 fit_by harts n there false more is some = omega (arith, some)
 

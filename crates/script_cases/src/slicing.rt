@@ -26,6 +26,7 @@ struct Row {
     name: &'static str,
     image: &'static [u8],
     is_alone: bool,
+    has_device: bool,
     made: u64,
     left: u64,
     meets: bool,
@@ -39,6 +40,7 @@ const TWO_HARTS: Row = Row {
     name: "two harts",
     image: &[],
     is_alone: false,
+    has_device: false,
     made: 0,
     left: u64::MAX,
     meets: false,
@@ -75,6 +77,15 @@ const SLICES: [Row; 4] = [
         ..TWO_HARTS
     },
 ];
+
+/// A device acts beside both harts.
+const WITH_A_DEVICE: Row = Row {
+    name: "slices with a device",
+    image: &ADDS_TO_ONE_WORD,
+    has_device: true,
+    left: 30_000,
+    ..TWO_HARTS
+};
 
 /// One hart alone runs, so that each item comes at its place.
 const TURNS: [Row; 6] = [
@@ -121,6 +132,7 @@ pub fn print<R: Threads + Wait + Print + AllocGlobal + Sync>(rt: &R) -> io::Resu
     for row in SLICES {
         print_row(rt, &row)?;
     }
+    print_row(rt, &WITH_A_DEVICE)?;
     for row in TURNS {
         let taken = print_row(rt, &row)?;
         println!(rt; "{}: items => {taken}", row.name)?;
@@ -130,7 +142,7 @@ pub fn print<R: Threads + Wait + Print + AllocGlobal + Sync>(rt: &R) -> io::Resu
 
 // How many items the trace took.
 fn print_row<R: Threads + Wait + Print + AllocGlobal + Sync>(rt: &R, row: &Row) -> io::Result<u64> {
-    let (flag, passes) = FlagGate::new(rt.alloc(), 3)?;
+    let (flag, passes) = FlagGate::new(rt.alloc(), 4)?;
     let pace = Pace::new(64);
     let mut steering = Steering { passes, pace };
     let gate = gate_of(flag, row);
@@ -170,8 +182,8 @@ struct Running<'a> {
 fn running_of<'a>(alloc: Global, row: &Row, gate: &'a HoldGate) -> Result<Running<'a>, AllocError> {
     let sink_fails = Failing::new(row.sink_fails.to_vec(alloc)?);
     let player = player_of(alloc, row, gate)?;
-    let machine = machine_of(alloc, row.is_alone, row.image, row.made)?;
-    let other = machine_of(alloc, row.is_alone, row.image, row.made)?;
+    let machine = machine_of(alloc, row.is_alone, row.has_device, row.image, row.made)?;
+    let other = machine_of(alloc, row.is_alone, row.has_device, row.image, row.made)?;
     Ok(Running {
         machine,
         other,
@@ -217,6 +229,9 @@ fn run_and_print<R: Threads + Wait + Print + AllocGlobal + Sync>(
     let end = run(rt, running, gate, steering);
     println!(rt; "{name}: slices end => {end}")?;
     println!(rt; "{name}: the meeting => {:?}", gate.meeting())?;
+    if running.turns.trace.is_mixed() {
+        println!(rt; "{name}: a device acts beside harts")?;
+    }
     print_running(rt, name, running)?;
     print_player(rt, name, running)
 }
