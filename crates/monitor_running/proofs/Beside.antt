@@ -1,8 +1,8 @@
 -- Devices that act in a slice.
-use Rattle.std.proofs.Common.{◌≡◌, ◌<◌, ◌≤◌, ◌+◌, ℕ, zero, suc, Bool, true, false, ◌&&◌, cond, inl, refl, sym, subst, arith, List, [], ◌∷◌, All, length}
+use Rattle.std.proofs.Common.{◌≡◌, ◌<◌, ◌≤◌, ◌+◌, ℕ, zero, suc, Bool, true, false, ◌&&◌, cond, inl, refl, sym, ap, ◌∙◌, subst, arith, List, [], ◌∷◌, All, length}
 use Rattle.std.specs.Prelude.{nat_le, nat_lt, if◌then◌else◌}
 use Rattle.std.specs.List.{AllByRecursion}
-use Rattle.std.proofs.lemmas.Bool.{leb-true, ltb-true}
+use Rattle.std.proofs.lemmas.Bool.{le-leb, leb-true, lt-ltb, ltb-true}
 use Rattle.std.proofs.lemmas.List.Elements.{All-from_recursion, recursion_from_All}
 use Rattle.vm_types.specs.Ids.{of_actor, same_actor}
 use Rattle.vm_types.specs.declared.entry.Entry.{Entry}
@@ -12,10 +12,13 @@ use Rattle.vm_types.specs.declared.reply.Reply.{Reply}
 use Rattle.vm_world.specs.Worlds.{WorldValue}
 use Rattle.slice_runner.specs.Runs.{AreAnswered, IsAnswered}
 use Rattle.slice_runner.specs.Slices.{DevicesAnswered, IsThere}
+use Rattle.slice_runner.specs.Stops.{AreStopped}
+use Rattle.slice_runner.specs.declared.stop.Stopped.{Stopped}
+use Rattle.pause_gate.specs.Tally.{Tally}
 use Rattle.monitor_machine.specs.Kinds.{DevicesKnown}
 use Rattle.monitor_running.specs.Devices.{AnswersDevice, AsksDevices, IsDevices, IsHeard, IsShort, WereAsked}
 use Rattle.monitor_running.specs.Happened.{HasPort, HavePorts}
-use Rattle.monitor_running.specs.Paced.{HasActed, acting_in}
+use Rattle.monitor_running.specs.Paced.{HasActed, acting_in, slice_steps, steps_in}
 use Rattle.monitor_running.proofs.Attached.{ports_there}
 use Rattle.monitor_running.proofs.Events.{asks_none, asks_nothing, rests_of, unasked_there}
 use Rattle.monitor_running.proofs.OneKind.{IsOther}
@@ -30,6 +33,30 @@ few_by n false more is = omega arith
 pub few_act : (there : ℕ) (w : WorldValue) → acting_in there w ≤ 1
 few_act there w = few_by (length w.devices) (nat_le (length w.devices) 1) (nat_lt (length w.harts + length w.devices) there) refl
 
+in_by : (n all there : ℕ) (few more : Bool) → nat_le n 1 ≡ few → nat_lt all there ≡ more → n ≤ 1 → all < there
+    → (if few && more then n else 0) ≡ n
+in_by n all there true true is less one enough = refl
+in_by n all there true false is less one enough = let yes = lt-ltb all there enough in cc
+in_by n all there false more is less one enough = let yes = le-leb n 1 one in cc
+
+out_by : (n all there : ℕ) (few more : Bool) → nat_le n 1 ≡ few → nat_lt all there ≡ more → (n ≤ 1 → all < there → ⊥)
+    → (if few && more then n else 0) ≡ 0
+out_by n all there true true is less not = absurd (not (leb-true n 1 is) (ltb-true all there less))
+out_by n all there true false is less not = refl
+out_by n all there false more is less not = refl
+
+pub acts_in : (there : ℕ) (w : WorldValue) → length w.devices ≤ 1 → length w.harts + length w.devices < there
+    → length w.devices ≡ acting_in there w
+acts_in there w one enough =
+    sym (in_by (length w.devices) (length w.harts + length w.devices) there (nat_le (length w.devices) 1)
+    (nat_lt (length w.harts + length w.devices) there) refl refl one enough)
+
+pub rests_in : (there : ℕ) (w : WorldValue) → (length w.devices ≤ 1 → length w.harts + length w.devices < there → ⊥)
+    → 0 ≡ acting_in there w
+rests_in there w not =
+    sym (out_by (length w.devices) (length w.harts + length w.devices) there (nat_le (length w.devices) 1)
+    (nat_lt (length w.harts + length w.devices) there) refl refl not)
+
 fit_by : (harts n there : ℕ) (few more : Bool) → nat_lt (harts + n) there ≡ more → harts + 1 ≤ there
     → harts + ((if few && more then n else 0) + 1) ≤ there
 fit_by harts n there true true is some = let less = ltb-true (harts + n) there is in omega (arith, less)
@@ -40,6 +67,27 @@ fit_by harts n there false more is some = omega (arith, some)
 pub act_fits : (there : ℕ) (w : WorldValue) → length w.harts + 1 ≤ there → length w.harts + (acting_in there w + 1) ≤ there
 act_fits there w some =
     fit_by (length w.harts) (length w.devices) there (nat_le (length w.devices) 1) (nat_lt (length w.harts + length w.devices) there) refl some
+
+pub few_one : (there : ℕ) (w : WorldValue) (acting : ℕ) → acting ≡ acting_in there w → acting ≤ 1
+few_one there w acting is = subst (λ (n : ℕ). n ≤ 1) (sym is) (few_act there w)
+
+pub few_acting : (there : ℕ) (w : WorldValue) (acting : ℕ) → acting ≡ acting_in there w → acting ≤ 16
+few_acting there w acting is = let few = few_one there w acting is in omega (arith, few)
+
+pub acting_fits : (there : ℕ) (w : WorldValue) (acting : ℕ) → acting ≡ acting_in there w → length w.harts + 1 ≤ there
+    → length w.harts + (acting + 1) ≤ there
+acting_fits there w acting is some =
+    subst (λ (n : ℕ). length w.harts + (n + 1) ≤ there) (sym is) (act_fits there w some)
+
+-- what a slice says of stops, where the actors act that are to
+pub slice_stopped : {Q : Type 0} (tally : Q → Tally) (steps each passes acting : ℕ) (w v : WorldValue) (events : List Entry)
+    (stops : List Stopped) (before after : List Q) → each ≡ slice_steps steps acting w → acting ≡ acting_in passes w
+    → passes ≡ length before → AreStopped tally each acting w events v stops before after
+    → AreStopped tally (steps_in steps (length before) w) (acting_in (length before) w) w events v stops before after
+slice_stopped tally steps each passes acting w v events stops before after many how there stopped =
+    let same : acting ≡ acting_in (length before) w = how ∙ ap (λ (k : ℕ). acting_in k w) there in
+    subst (λ (d : ℕ). AreStopped tally (slice_steps steps d w) d w events v stops before after) same
+    (subst (λ (n : ℕ). AreStopped tally n acting w events v stops before after) many stopped)
 
 -- and none acts before the slice
 pub none_acted : (w : WorldValue) → HasActed w w
@@ -59,12 +107,12 @@ answered (Op.Out act) reply old new it = (it.1, it.0)
 answered op reply old new it = (asks_nothing op (ActorId.Device 0) reply old new refl it, tt)
 
 -- what one event left, and the answers behind it
-record Asked (e : Entry) (rest : List Entry) (old new : DevicesKnown) : Type 0 where
-  mid : DevicesKnown
-  asks : AsksDevices e.op e.actor e.reply old mid
-  behind : AreAnswered AnswersDevice 0 mid rest new
-  port : HasPort e.actor
-  heard : IsHeard e.actor e.op e.reply
+pub record Asked (e : Entry) (rest : List Entry) (old new : DevicesKnown) : Type 0 where
+  pub mid : DevicesKnown
+  pub asks : AsksDevices e.op e.actor e.reply old mid
+  pub behind : AreAnswered AnswersDevice 0 mid rest new
+  pub port : HasPort e.actor
+  pub heard : IsHeard e.actor e.op e.reply
 
 other_asked : (e : Entry) (rest : List Entry) (old new : DevicesKnown) (actor : ActorId) → e.actor ≡ actor → IsOther actor → HasPort actor
     → IsHeard actor e.op e.reply → AreAnswered AnswersDevice 0 old rest new → Asked e rest old new

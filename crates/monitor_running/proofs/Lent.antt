@@ -28,6 +28,10 @@ disk_settled was now lent back from set same =
 pub host_unasked : (was now : TurnKnown) → now ≡ with_host was now.host → now.host ≡ was.host → now ≡ was
 host_unasked was now set same = set ∙ ap (λ (h : HostKnown). with_host was h) same
 
+-- or the clock alone
+pub clock_unasked : (was now : TurnKnown) → now ≡ with_clock was now.host.clock → now.host.clock ≡ was.host.clock → now ≡ was
+clock_unasked was now set same = set ∙ ap (λ (c : ClockKnown). with_clock was c) same
+
 -- or the objects of devices alone
 pub devices_unasked : (was now : TurnKnown) → now ≡ with_devices was now.host.devices → now.host.devices ≡ was.host.devices → now ≡ was
 devices_unasked was now set same = set ∙ ap (λ (d : DevicesKnown). with_devices was d) same

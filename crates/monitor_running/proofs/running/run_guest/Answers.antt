@@ -1,10 +1,9 @@
-use Rattle.std.proofs.Common.{ℕ, ◌≤◌, ap, refl, sym, subst, length}
+use Rattle.std.proofs.Common.{ap, arith, refl, length}
 use Rattle.slice_runner.specs.Slices.{acting}
-use Rattle.slice_runner.specs.Stops.{AreStopped}
 use Rattle.monitor_running.specs.declared.pacing.Pace.{Pace}
 use Rattle.monitor_running.specs.declared.ran.Ran.TheVariants as ran
 use Rattle.monitor_running.specs.Paced.IsPaced.{Lacking, Slice}
-use Rattle.monitor_running.proofs.Beside.{few_act, slice_asked}
+use Rattle.monitor_running.proofs.Beside.{few_one, slice_asked, slice_stopped}
 use Rattle.monitor_running.proofs.Lent.{host_unasked}
 use Rattle.monitor_running.proofs.Passing.{passed_end, passed_slice}
 use Rattle.monitor_running.proofs.Told.{host_happened, slice_gone}
@@ -27,8 +26,7 @@ returns-clause-turn g c =
     let mid = g.W.TurnObjects.known c.slice_by.new.with in
     let now = g.W.TurnObjects.known c.settle_behind.new.with in
     let es = c.in-Ok.slice.events.items in
-    let few : acting c.who_acts-how.result c.args.world.now ≤ 1 =
-    subst (λ (n : ℕ). n ≤ 1) (sym c.who_acts-how.ensures) (few_act _ c.args.world.now) in
+    let few = few_one _ c.args.world.now (acting c.who_acts-how.result c.args.world.now) c.who_acts-how.ensures in
     turn_with _ _ c.tell_slice-end.result _ _ _ _ _ _
     (passed_slice _ _ _ _ _ _ _ _ _ _ c.in-Ok.ensures.stops c.slice_by.ensures.serve c.slice_by.ensures.same)
     (c.tell_slice-end.ensures.part was c.args.world.now
@@ -48,8 +46,9 @@ returns-clause-paced g c = λ several none.
       mid = c.slice_by.new.world;
       serial = c.in-Ok.ensures.serial;
       stopped =
-          subst (λ (n : ℕ). AreStopped g.G.Gate.tally n 0 c.args.world.now c.in-Ok.slice.events.items c.slice_by.new.world c.in-Ok.slice.stops.items
-          c.args.steering.now.passes.items c.slice_by.new.passes.items) c.steps_each-each.ensures c.in-Ok.ensures.stops;
+          slice_stopped g.G.Gate.tally c.args.steering.now.pace.steps _ _ _ c.args.world.now c.slice_by.new.world c.in-Ok.slice.events.items
+          c.in-Ok.slice.stops.items c.args.steering.now.passes.items c.slice_by.new.passes.items c.steps_each-each.ensures c.who_acts-how.ensures
+          (omega (arith, c.len.ensures, c.args.steering.now.passes.ok.0)) c.in-Ok.ensures.stops;
       drained = c.tell_slice-end.ensures.world;
     })
 
