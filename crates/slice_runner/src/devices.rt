@@ -5,7 +5,7 @@ ghost use Rattle.slice_runner.specs.Slices.{acting_of};
 use guest_devices::Device;
 
 /// Whether the devices of a world act in a slice, or rest in it.
-#[derive(Clone, Copy, Debug, Drop)]
+#[derive(Clone, Copy, Drop)]
 pub enum Devices {
     /// All of them act.
     Act,
