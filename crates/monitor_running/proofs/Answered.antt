@@ -1,10 +1,8 @@
 -- The object of one kind answered, and the others were not asked.
-use Rattle.std.proofs.Common.{◌≡◌, ℕ, true, false, refl, sym, ap, ◌∙◌, subst, length, Option, Some, None}
-use Rattle.std.specs.Prelude.{nat_eq, nat_lt}
-use Rattle.std.proofs.lemmas.Bool.{and_parts, eqb-true, ltb-true}
+use Rattle.std.proofs.Common.{◌≡◌, ℕ, true, false, refl, sym, ap, ◌∙◌, subst, Option, Some, None}
 use Rattle.vm_types.specs.declared.op.Op.{Op}
 use Rattle.vm_types.specs.declared.op.OutOp.{OutOp}
-use Rattle.vm_types.specs.declared.op.OutOp.TheVariants.{Clock, DiskFlush, DiskRead, DiskWrite, DrawWord, HostClose, HostDial, HostNext, HostSend, LinkEnd, LinkPart, LinkSend, LinkTake}
+use Rattle.vm_types.specs.declared.op.OutOp.TheVariants.{DiskFlush, DiskRead, DiskWrite, DrawWord, HostClose, HostDial, HostNext, HostSend, LinkEnd, LinkPart, LinkSend, LinkTake}
 use Rattle.vm_types.specs.declared.reply.Reply.{Reply}
 use Rattle.vm_host.specs.Framing.{LinkKnown}
 use Rattle.vm_host.specs.Giving.{GuestWordsKnown}
@@ -13,7 +11,7 @@ use Rattle.vm_host.specs.Storing.{DiskKnown}
 use Rattle.vm_host.specs.Telling.{ClockKnown}
 use Rattle.device_trace.specs.Acts.{is_disk_call}
 use Rattle.monitor_machine.specs.Kinds.{DevicesKnown, disks, is_link_call, is_vsock_call, is_word_call, links, vsocks, words}
-use Rattle.monitor_running.specs.Devices.{CanBeAsked, IsGiven, IsGivenBy, can_be_asked}
+use Rattle.monitor_running.specs.Devices.{IsGiven, IsGivenBy}
 use Rattle.monitor_running.specs.Asked.{HostKnown}
 use Rattle.monitor_running.specs.Objects.{TurnKnown, with_devices, with_host}
 use Rattle.monitor_running.proofs.KindLaws.{disks_law, links_law, vsocks_law, words_law}
@@ -85,15 +83,6 @@ word_is_no_link act is = cc
 word_is_no_vsock : (act : OutOp) → is_word_call act ≡ true → is_vsock_call act ≡ false
 word_is_no_vsock DrawWord is = refl
 word_is_no_vsock act is = cc
-
--- ---- a call that can be made
-
-pub can_ask : (act : OutOp) → can_be_asked act ≡ true → CanBeAsked (Op.Out act)
-can_ask Clock is = cc
-can_ask (DiskRead sector part) is = ltb-true part 8 is
-can_ask (DiskWrite sector part bytes) is =
-    let both = and_parts (nat_lt part 8) (nat_eq (length bytes) 64) is in (ltb-true part 8 both.0, eqb-true (length bytes) 64 both.1)
-can_ask act is = tt
 
 -- ---- what one kind gives is given
 

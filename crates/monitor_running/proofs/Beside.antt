@@ -2,7 +2,7 @@
 use Rattle.std.proofs.Common.{◌≡◌, ◌<◌, ◌≤◌, ◌+◌, ℕ, zero, suc, Bool, true, false, ◌&&◌, cond, inl, refl, sym, ap, ◌∙◌, subst, arith, List, [], ◌∷◌, All, length}
 use Rattle.std.specs.Prelude.{nat_le, nat_lt, if◌then◌else◌}
 use Rattle.std.specs.List.{AllByRecursion}
-use Rattle.std.proofs.lemmas.Bool.{le-leb, leb-true, lt-ltb, ltb-true}
+use Rattle.std.proofs.lemmas.Bool.{leb-true, ltb-true}
 use Rattle.std.proofs.lemmas.List.Elements.{All-from_recursion, recursion_from_All}
 use Rattle.vm_types.specs.Ids.{of_actor, same_actor}
 use Rattle.vm_types.specs.declared.entry.Entry.{Entry}
@@ -32,30 +32,6 @@ few_by n false more is = omega arith
 
 pub few_act : (there : ℕ) (w : WorldValue) → acting_in there w ≤ 1
 few_act there w = few_by (length w.devices) (nat_le (length w.devices) 1) (nat_lt (length w.harts + length w.devices) there) refl
-
-in_by : (n all there : ℕ) (few more : Bool) → nat_le n 1 ≡ few → nat_lt all there ≡ more → n ≤ 1 → all < there
-    → (if few && more then n else 0) ≡ n
-in_by n all there true true is less one enough = refl
-in_by n all there true false is less one enough = let yes = lt-ltb all there enough in cc
-in_by n all there false more is less one enough = let yes = le-leb n 1 one in cc
-
-out_by : (n all there : ℕ) (few more : Bool) → nat_le n 1 ≡ few → nat_lt all there ≡ more → (n ≤ 1 → all < there → ⊥)
-    → (if few && more then n else 0) ≡ 0
-out_by n all there true true is less not = absurd (not (leb-true n 1 is) (ltb-true all there less))
-out_by n all there true false is less not = refl
-out_by n all there false more is less not = refl
-
-pub acts_in : (there : ℕ) (w : WorldValue) → length w.devices ≤ 1 → length w.harts + length w.devices < there
-    → length w.devices ≡ acting_in there w
-acts_in there w one enough =
-    sym (in_by (length w.devices) (length w.harts + length w.devices) there (nat_le (length w.devices) 1)
-    (nat_lt (length w.harts + length w.devices) there) refl refl one enough)
-
-pub rests_in : (there : ℕ) (w : WorldValue) → (length w.devices ≤ 1 → length w.harts + length w.devices < there → ⊥)
-    → 0 ≡ acting_in there w
-rests_in there w not =
-    sym (out_by (length w.devices) (length w.harts + length w.devices) there (nat_le (length w.devices) 1)
-    (nat_lt (length w.harts + length w.devices) there) refl refl not)
 
 fit_by : (harts n there : ℕ) (few more : Bool) → nat_lt (harts + n) there ≡ more → harts + 1 ≤ there
     → harts + ((if few && more then n else 0) + 1) ≤ there

@@ -1,5 +1,5 @@
 -- What is left of what turns are given, where a part of it was lent.
-use Rattle.std.proofs.Common.{◌≡◌, ◌∙◌, refl, sym, ap, subst, None}
+use Rattle.std.proofs.Common.{◌≡◌, ◌∙◌, sym, ap, subst, None}
 use Rattle.vm_host.specs.Storing.{DiskKnown}
 use Rattle.vm_host.specs.Telling.{ClockKnown, Lasts}
 use Rattle.vm_outside.specs.Known.{SinkKnown}
@@ -23,16 +23,6 @@ pub disk_settled : (was now : TurnKnown) (lent back : DiskKnown) → lent ≡ wa
     → now ≡ was
 disk_settled was now lent back from set same =
     set ∙ ap (λ (d : DiskKnown). with_disk was d) (same ∙ from)
-
--- what is said of the host that was lent is said of what is known of it
-pub lent_by : (P : HostKnown → HostKnown → Type 0) (was now : TurnKnown) (lent back : HostKnown) → lent ≡ was.host
-    → now ≡ with_host was back → P lent back → P was.host now.host
-lent_by P was now lent back from set it =
-    subst (λ (x : TurnKnown). P was.host x.host) (sym set) (subst (λ (h : HostKnown). P h back) from it)
-
--- and the rest of what turns are given is as it was
-pub lent_beside : (was now : TurnKnown) (back : HostKnown) → now ≡ with_host was back → now ≡ with_host was now.host
-lent_beside was now back set = subst (λ (x : TurnKnown). x ≡ with_host was x.host) (sym set) refl
 
 -- the clock and the objects of devices were asked nothing, and kept what they knew
 pub host_unasked : (was now : TurnKnown) → now ≡ with_host was now.host → now.host ≡ was.host → now ≡ was
