@@ -1,6 +1,6 @@
 -- What the first pass knows of its gate, slice after slice.
 use Rattle.std.specs.Prelude.{MatchBool}
-use Rattle.std.proofs.Common.{Bool, true, false, ◌≡◌, ℕ, suc, ◌<◌, refl, ap, ◌∙◌, arith, List, [], ◌∷◌, length, slice_get, Option, Some, None, All}
+use Rattle.std.proofs.Common.{Bool, true, false, ◌≡◌, ◌+◌, ℕ, suc, ◌<◌, refl, ap, ◌∙◌, arith, List, [], ◌∷◌, length, slice_get, Option, Some, None, All}
 use Rattle.pause_gate.specs.Tally.{Tally}
 use Rattle.vm_types.specs.declared.entry.Entry.{Entry}
 use Rattle.vm_world.specs.Worlds.{WorldValue}
