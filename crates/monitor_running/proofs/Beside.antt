@@ -1,8 +1,8 @@
 -- Devices that act in a slice.
-use Rattle.std.proofs.Common.{◌≡◌, ◌<◌, ◌≤◌, ◌+◌, ℕ, zero, suc, Bool, true, false, ◌&&◌, cond, inl, refl, sym, ap, ◌∙◌, subst, arith, List, [], ◌∷◌, All, length}
+use Rattle.std.proofs.Common.{◌≡◌, ◌≤◌, ◌+◌, ℕ, zero, suc, Bool, true, false, ◌&&◌, cond, inl, refl, sym, ap, ◌∙◌, subst, arith, List, [], ◌∷◌, All, length}
 use Rattle.std.specs.Prelude.{nat_le, nat_lt, if◌then◌else◌}
 use Rattle.std.specs.List.{AllByRecursion}
-use Rattle.std.proofs.lemmas.Bool.{leb-true, ltb-true}
+use Rattle.std.proofs.lemmas.Bool.{leb-true}
 use Rattle.std.proofs.lemmas.List.Elements.{All-from_recursion, recursion_from_All}
 use Rattle.vm_types.specs.Ids.{of_actor, same_actor}
 use Rattle.vm_types.specs.declared.entry.Entry.{Entry}
@@ -30,30 +30,11 @@ few_by n true true is = leb-true n 1 is
 few_by n true false is = omega arith
 few_by n false more is = omega arith
 
-pub few_act : (there : ℕ) (w : WorldValue) → acting_in there w ≤ 1
+few_act : (there : ℕ) (w : WorldValue) → acting_in there w ≤ 1
 few_act there w = few_by (length w.devices) (nat_le (length w.devices) 1) (nat_lt (length w.harts + length w.devices) there) refl
-
-fit_by : (harts n there : ℕ) (few more : Bool) → nat_lt (harts + n) there ≡ more → harts + 1 ≤ there
-    → harts + ((if few && more then n else 0) + 1) ≤ there
-fit_by harts n there true true is some = let less = ltb-true (harts + n) there is in omega (arith, less)
-fit_by harts n there true false is some = omega (arith, some)
-fit_by harts n there false more is some = omega (arith, some)
-
--- each of them has a pass
-pub act_fits : (there : ℕ) (w : WorldValue) → length w.harts + 1 ≤ there → length w.harts + (acting_in there w + 1) ≤ there
-act_fits there w some =
-    fit_by (length w.harts) (length w.devices) there (nat_le (length w.devices) 1) (nat_lt (length w.harts + length w.devices) there) refl some
 
 pub few_one : (there : ℕ) (w : WorldValue) (acting : ℕ) → acting ≡ acting_in there w → acting ≤ 1
 few_one there w acting is = subst (λ (n : ℕ). n ≤ 1) (sym is) (few_act there w)
-
-pub few_acting : (there : ℕ) (w : WorldValue) (acting : ℕ) → acting ≡ acting_in there w → acting ≤ 16
-few_acting there w acting is = let few = few_one there w acting is in omega (arith, few)
-
-pub acting_fits : (there : ℕ) (w : WorldValue) (acting : ℕ) → acting ≡ acting_in there w → length w.harts + 1 ≤ there
-    → length w.harts + (acting + 1) ≤ there
-acting_fits there w acting is some =
-    subst (λ (n : ℕ). length w.harts + (n + 1) ≤ there) (sym is) (act_fits there w some)
 
 -- what a slice says of stops, where the actors act that are to
 pub slice_stopped : {Q : Type 0} (tally : Q → Tally) (steps each passes acting : ℕ) (w v : WorldValue) (events : List Entry)
