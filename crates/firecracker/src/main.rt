@@ -7,12 +7,11 @@ use host_real::{
     VsockSockets, keep_freed_memory,
 };
 use monitor_cli::{NoWords, Outside};
-use monitor_running::TracedHost;
+use monitor_running::{DeviceHost, TracedHost, TurnHost};
 use outside_real::{Folder, Output, Reading, fill_standard};
 use std::io::ErrorKind;
 use std::process::ExitCode;
 use std::{env, io};
-use vm_host::Host;
 use vm_types::Exit;
 
 /// The status where a standard descriptor is closed and can't be opened either, and where `. off` isn't taken: that of a failed
@@ -32,11 +31,13 @@ fn main(rt: HostRuntime) -> ExitCode {
     };
     let mut with = ServeOutside {
         turns: TracedHost {
-            host: Host {
-                disk: DiskFiles::new(&rt),
-                link: LinkSockets::new(&rt, &bell),
-                vsock: VsockSockets::new(&rt, &bell),
-                guest_words: RandomWords::new(&rt),
+            host: TurnHost {
+                devices: DeviceHost {
+                    disk: DiskFiles::new(&rt),
+                    link: LinkSockets::new(&rt, &bell),
+                    vsock: VsockSockets::new(&rt, &bell),
+                    guest_words: RandomWords::new(&rt),
+                },
                 clock: SystemClock::new(&rt, &bell),
             },
             trace: TraceFile::new(&rt),

@@ -1,5 +1,5 @@
 -- The object of one kind answered, and the others were not asked.
-use Rattle.std.proofs.Common.{◌≡◌, ℕ, true, false, refl, sym, ap, subst, Option, Some, None}
+use Rattle.std.proofs.Common.{◌≡◌, ℕ, true, false, refl, sym, ap, ◌∙◌, subst, Option, Some, None}
 use Rattle.vm_types.specs.declared.op.Op.{Op}
 use Rattle.vm_types.specs.declared.op.OutOp.{OutOp}
 use Rattle.vm_types.specs.declared.op.OutOp.TheVariants.{DiskFlush, DiskRead, DiskWrite, DrawWord, HostClose, HostDial, HostNext, HostSend, LinkEnd, LinkPart, LinkSend, LinkTake}
@@ -8,10 +8,12 @@ use Rattle.vm_host.specs.Framing.{LinkKnown}
 use Rattle.vm_host.specs.Giving.{GuestWordsKnown}
 use Rattle.vm_host.specs.Hosting.{VsockKnown}
 use Rattle.vm_host.specs.Storing.{DiskKnown}
+use Rattle.vm_host.specs.Telling.{ClockKnown}
 use Rattle.device_trace.specs.Acts.{is_disk_call}
 use Rattle.monitor_machine.specs.Kinds.{DevicesKnown, disks, is_link_call, is_vsock_call, is_word_call, links, vsocks, words}
 use Rattle.monitor_running.specs.Devices.{IsGiven, IsGivenBy}
-use Rattle.monitor_running.specs.Objects.{TurnKnown, with_disk, with_guest_words, with_link, with_vsock}
+use Rattle.monitor_running.specs.Asked.{HostKnown}
+use Rattle.monitor_running.specs.Objects.{TurnKnown, with_devices, with_host}
 use Rattle.monitor_running.proofs.KindLaws.{disks_law, links_law, vsocks_law, words_law}
 use Rattle.monitor_running.proofs.OneKind.{asks_not, asks_own}
 
@@ -84,7 +86,7 @@ word_is_no_vsock act is = cc
 
 -- ---- what one kind gives is given
 
-of_disk : (k : ℕ) (act : OutOp) (given : Option Reply) (old : DevicesKnown) (disk : DiskKnown)
+pub of_disk : (k : ℕ) (act : OutOp) (given : Option Reply) (old : DevicesKnown) (disk : DiskKnown)
     → IsGivenBy disks k (Op.Out act) old.disk given disk → IsGiven k (Op.Out act) old given (record old { disk = disk })
 of_disk k act None old disk it = ap (λ (d : DiskKnown). record old { disk = d }) it
 of_disk k act (Some r) old disk it = (
@@ -98,7 +100,7 @@ of_disk k act (Some r) old disk it = (
   },
 )
 
-of_link : (k : ℕ) (act : OutOp) (given : Option Reply) (old : DevicesKnown) (link : LinkKnown)
+pub of_link : (k : ℕ) (act : OutOp) (given : Option Reply) (old : DevicesKnown) (link : LinkKnown)
     → IsGivenBy links k (Op.Out act) old.link given link → IsGiven k (Op.Out act) old given (record old { link = link })
 of_link k act None old link it = ap (λ (l : LinkKnown). record old { link = l }) it
 of_link k act (Some r) old link it = (
@@ -112,7 +114,7 @@ of_link k act (Some r) old link it = (
   },
 )
 
-of_vsock : (k : ℕ) (act : OutOp) (given : Option Reply) (old : DevicesKnown) (vsock : VsockKnown)
+pub of_vsock : (k : ℕ) (act : OutOp) (given : Option Reply) (old : DevicesKnown) (vsock : VsockKnown)
     → IsGivenBy vsocks k (Op.Out act) old.vsock given vsock → IsGiven k (Op.Out act) old given (record old { vsock = vsock })
 of_vsock k act None old vsock it = ap (λ (v : VsockKnown). record old { vsock = v }) it
 of_vsock k act (Some r) old vsock it = (
@@ -126,7 +128,7 @@ of_vsock k act (Some r) old vsock it = (
   },
 )
 
-of_words : (k : ℕ) (act : OutOp) (given : Option Reply) (old : DevicesKnown) (left : GuestWordsKnown)
+pub of_words : (k : ℕ) (act : OutOp) (given : Option Reply) (old : DevicesKnown) (left : GuestWordsKnown)
     → IsGivenBy words k (Op.Out act) old.words given left → IsGiven k (Op.Out act) old given (record old { words = left })
 of_words k act None old left it = ap (λ (w : GuestWordsKnown). record old { words = w }) it
 of_words k act (Some r) old left it = (
@@ -140,36 +142,17 @@ of_words k act (Some r) old left it = (
   },
 )
 
--- ---- an object was lent, and given back
+-- ---- the clock and the objects of devices were lent, and given back
 
-pub disk_given : (k : ℕ) (act : OutOp) (given : Option Reply) (was now : TurnKnown) (lent back : DiskKnown)
-    → lent ≡ was.host.devices.disk → now ≡ with_disk was back → IsGivenBy disks k (Op.Out act) lent given back
-    → IsGiven k (Op.Out act) was.host.devices given now.host.devices
-disk_given k act given was now lent back from set it =
-    subst (λ (x : TurnKnown). IsGiven k (Op.Out act) was.host.devices given x.host.devices) (sym set)
-    (of_disk k act given was.host.devices back
-    (subst (λ (d : DiskKnown). IsGivenBy disks k (Op.Out act) d given back) from it))
+pub host_given : (k : ℕ) (op : Op) (given : Option Reply) (was now : TurnKnown) (lent back : HostKnown) → lent ≡ was.host
+    → now ≡ with_host was back → IsGiven k op lent.devices given back.devices → IsGiven k op was.host.devices given now.host.devices
+host_given k op given was now lent back from set it =
+    subst (λ (x : TurnKnown). IsGiven k op was.host.devices given x.host.devices) (sym set)
+    (subst (λ (h : HostKnown). IsGiven k op h.devices given back.devices) from it)
 
-pub link_given : (k : ℕ) (act : OutOp) (given : Option Reply) (was now : TurnKnown) (lent back : LinkKnown)
-    → lent ≡ was.host.devices.link → now ≡ with_link was back → IsGivenBy links k (Op.Out act) lent given back
-    → IsGiven k (Op.Out act) was.host.devices given now.host.devices
-link_given k act given was now lent back from set it =
-    subst (λ (x : TurnKnown). IsGiven k (Op.Out act) was.host.devices given x.host.devices) (sym set)
-    (of_link k act given was.host.devices back
-    (subst (λ (l : LinkKnown). IsGivenBy links k (Op.Out act) l given back) from it))
-
-pub vsock_given : (k : ℕ) (act : OutOp) (given : Option Reply) (was now : TurnKnown) (lent back : VsockKnown)
-    → lent ≡ was.host.devices.vsock → now ≡ with_vsock was back → IsGivenBy vsocks k (Op.Out act) lent given back
-    → IsGiven k (Op.Out act) was.host.devices given now.host.devices
-vsock_given k act given was now lent back from set it =
-    subst (λ (x : TurnKnown). IsGiven k (Op.Out act) was.host.devices given x.host.devices) (sym set)
-    (of_vsock k act given was.host.devices back
-    (subst (λ (v : VsockKnown). IsGivenBy vsocks k (Op.Out act) v given back) from it))
-
-pub words_given : (k : ℕ) (act : OutOp) (given : Option Reply) (was now : TurnKnown) (lent back : GuestWordsKnown)
-    → lent ≡ was.host.devices.words → now ≡ with_guest_words was back → IsGivenBy words k (Op.Out act) lent given back
-    → IsGiven k (Op.Out act) was.host.devices given now.host.devices
-words_given k act given was now lent back from set it =
-    subst (λ (x : TurnKnown). IsGiven k (Op.Out act) was.host.devices given x.host.devices) (sym set)
-    (of_words k act given was.host.devices back
-    (subst (λ (w : GuestWordsKnown). IsGivenBy words k (Op.Out act) w given back) from it))
+-- the clock was asked nothing
+pub host_beside : (was now : TurnKnown) (lent back : HostKnown) → lent ≡ was.host → now ≡ with_host was back → back.clock ≡ lent.clock
+    → now ≡ with_devices was now.host.devices
+host_beside was now lent back from set same =
+    subst (λ (x : TurnKnown). x ≡ with_devices was x.host.devices) (sym set)
+    (ap (λ (c : ClockKnown). with_host was (record { clock = c; devices = back.devices })) (same ∙ ap (λ (h : HostKnown). h.clock) from))

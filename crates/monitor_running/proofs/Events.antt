@@ -56,7 +56,8 @@ asks_later op actor reply a b c rests then = record {
   words = one.asks_later words words_law op actor reply a.words b.words c.words rests.words then.words;
 }
 
-asks_none : (op : Op) (actor : ActorId) (reply : Reply) (known : DevicesKnown) → IsOther actor → AsksDevices op actor reply known known
+-- an actor that is no device asks none
+pub asks_none : (op : Op) (actor : ActorId) (reply : Reply) (known : DevicesKnown) → IsOther actor → AsksDevices op actor reply known known
 asks_none op actor reply known other = record {
   disk = one.asks_none disks disks_law op actor reply known.disk other;
   link = one.asks_none links links_law op actor reply known.link other;

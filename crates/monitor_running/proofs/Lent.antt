@@ -5,7 +5,8 @@ use Rattle.vm_host.specs.Telling.{ClockKnown, Lasts}
 use Rattle.vm_outside.specs.Known.{SinkKnown}
 use Rattle.flat_machine.specs.Machine.{Machine}
 use Rattle.monitor_machine.specs.Kinds.{DevicesKnown}
-use Rattle.monitor_running.specs.Objects.{TurnKnown, known_with, with_clock, with_devices, with_disk}
+use Rattle.monitor_running.specs.Asked.{HostKnown}
+use Rattle.monitor_running.specs.Objects.{TurnKnown, known_with, with_clock, with_devices, with_disk, with_host}
 use Rattle.monitor_running.specs.Ran.{Went}
 use Rattle.monitor_running.proofs.Events.{rests_same}
 use Rattle.monitor_running.proofs.Lifts.{went_resting}
@@ -23,11 +24,15 @@ pub disk_settled : (was now : TurnKnown) (lent back : DiskKnown) → lent ≡ wa
 disk_settled was now lent back from set same =
     set ∙ ap (λ (d : DiskKnown). with_disk was d) (same ∙ from)
 
--- the clock was asked nothing, and kept what it knew
+-- the clock and the objects of devices were asked nothing, and kept what they knew
+pub host_unasked : (was now : TurnKnown) → now ≡ with_host was now.host → now.host ≡ was.host → now ≡ was
+host_unasked was now set same = set ∙ ap (λ (h : HostKnown). with_host was h) same
+
+-- or the clock alone
 pub clock_unasked : (was now : TurnKnown) → now ≡ with_clock was now.host.clock → now.host.clock ≡ was.host.clock → now ≡ was
 clock_unasked was now set same = set ∙ ap (λ (c : ClockKnown). with_clock was c) same
 
--- and so did the objects of devices
+-- or the objects of devices alone
 pub devices_unasked : (was now : TurnKnown) → now ≡ with_devices was now.host.devices → now.host.devices ≡ was.host.devices → now ≡ was
 devices_unasked was now set same = set ∙ ap (λ (d : DevicesKnown). with_devices was d) same
 

@@ -2,6 +2,7 @@ pub mod Acting
 pub mod Answered
 pub mod Asked
 pub mod Attached
+pub mod Beside
 pub mod Events
 pub mod Going
 pub mod Joins

@@ -1,6 +1,6 @@
 -- What the first pass knows of its gate, slice after slice.
 use Rattle.std.specs.Prelude.{MatchBool}
-use Rattle.std.proofs.Common.{Bool, true, false, ◌≡◌, ℕ, suc, ◌<◌, refl, ap, ◌∙◌, arith, List, [], ◌∷◌, length, slice_get, Option, Some, None, All}
+use Rattle.std.proofs.Common.{Bool, true, false, ◌≡◌, ◌+◌, ℕ, suc, ◌<◌, refl, ap, ◌∙◌, arith, List, [], ◌∷◌, length, slice_get, Option, Some, None, All}
 use Rattle.pause_gate.specs.Tally.{Tally}
 use Rattle.vm_types.specs.declared.entry.Entry.{Entry}
 use Rattle.vm_world.specs.Worlds.{WorldValue}
@@ -18,20 +18,20 @@ first_there : {A : Type 0} (xs : List A) → 0 < length xs → (x : A) × (slice
 first_there [] is = absurd (omega (arith, is))
 first_there (x ∷ xs) is = (x, refl)
 
-never_fell : {Q : Type 0} (tally : Q → Tally) (n : ℕ) (old : WorldValue) (events : List Entry) (now : WorldValue) (stops : List Stopped)
-    (before after : List Q) → AreStopped tally n 0 old events now stops before after → AtFirst (NeverFell tally) before after
-never_fell tally n old events now stops before after are p q is later =
-    let s = first_of stops (length now.harts + 0) are.count in
+never_fell : {Q : Type 0} (tally : Q → Tally) (n devices : ℕ) (old : WorldValue) (events : List Entry) (now : WorldValue) (stops : List Stopped)
+    (before after : List Q) → AreStopped tally n devices old events now stops before after → AtFirst (NeverFell tally) before after
+never_fell tally n devices old events now stops before after are p q is later =
+    let s = first_of stops (length now.harts + devices) are.count in
     let stopped = are.each 0 s.0 p q s.1 is later in
     let gate = stopped.cause.gate in
     omega (arith, gate)
 
 -- a slice was made
-pub passed_slice : {Q : Type 0} (serves : Q → Type 0) (tally : Q → Tally) (n : ℕ) (old : WorldValue) (events : List Entry) (now : WorldValue)
-    (stops : List Stopped) (before after : List Q) → AreStopped tally n 0 old events now stops before after → All serves after
+pub passed_slice : {Q : Type 0} (serves : Q → Type 0) (tally : Q → Tally) (n devices : ℕ) (old : WorldValue) (events : List Entry) (now : WorldValue)
+    (stops : List Stopped) (before after : List Q) → AreStopped tally n devices old events now stops before after → All serves after
     → length after ≡ length before → ArePassed serves tally None before after
-passed_slice serves tally n old events now stops before after are serve same =
-    record { serve = serve; same = same; first = never_fell tally n old events now stops before after are }
+passed_slice serves tally n devices old events now stops before after are serve same =
+    record { serve = serve; same = same; first = never_fell tally n devices old events now stops before after are }
 
 -- an end that the gate did not make
 pub passed_end : {Q : Type 0} (serves : Q → Type 0) (tally : Q → Tally) (end : Ran) (before after : List Q)

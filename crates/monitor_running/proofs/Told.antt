@@ -15,7 +15,7 @@ use Rattle.flat_machine.specs.Machine.{Machine, running}
 use Rattle.vm_world.specs.Worlds.{IsSameButSpare, IsWorld, WorldValue}
 use Rattle.vm_world.proofs.Events.{same_world}
 use Rattle.slice_runner.specs.Runs.{HasAnswered}
-use Rattle.slice_runner.specs.Slices.{ClockWasAsked, IsSerial, IsThere, Leads}
+use Rattle.slice_runner.specs.Slices.{ClockWasAsked, IsSerial, Leads}
 use Rattle.monitor_running.specs.declared.ran.Ran.TheVariants as ran
 use Rattle.monitor_running.specs.declared.telling.Untold.{Untold}
 use Rattle.monitor_running.specs.declared.telling.Untold.TheVariants as untold
@@ -28,16 +28,16 @@ use Rattle.monitor_running.specs.Waiting.{HasGone, makers, turns}
 use Rattle.monitor_machine.specs.Kinds.{DevicesKnown}
 use Rattle.monitor_running.specs.Asked.{HasOwn, Healths, HostKnown}
 use Rattle.monitor_running.specs.Devices.{IsDevices, WereAsked}
-use Rattle.monitor_running.specs.Happened.{GoneFrom, HasHappened, HostGone}
-use Rattle.monitor_running.specs.Objects.{TurnKnown, with_clock, with_devices}
+use Rattle.monitor_running.specs.Happened.{GoneFrom, HasHappened, HavePorts, HostGone}
+use Rattle.monitor_running.specs.Objects.{TurnKnown, with_clock, with_devices, with_host}
 use Rattle.port_table.specs.Window.{most_ports}
 use Rattle.monitor_running.specs.Reached.{Ahead, AreOwn, GetsAhead, IsCut, Keeps, Known, Reached, Seen, Start, known, told_at}
 use Rattle.flat_trace.specs.Showing.{Out}
 use Rattle.flat_guest.specs.Sound.{IsSound}
 use Rattle.monitor_running.proofs.Asked.{answers_same}
 use Rattle.monitor_running.proofs.Sound.{sound_led, world_sound}
-use Rattle.monitor_running.proofs.Attached.{StillTell, own_kept, own_rest, own_was, ports_devices, ports_split, ports_there, ports_turns, tell_on}
-use Rattle.monitor_running.proofs.Events.{asked_split, clock_rests, unasked_there, unasked_turns}
+use Rattle.monitor_running.proofs.Attached.{StillTell, own_kept, own_rest, own_was, ports_devices, ports_split, ports_turns, tell_on}
+use Rattle.monitor_running.proofs.Events.{asked_split, clock_rests, unasked_turns}
 use Rattle.monitor_running.proofs.Joins.{HostRests, answered_first, answers_append, goes_by, host_same, reached_still, rests, still_own}
 use Rattle.monitor_running.proofs.Led.{acts_items, drain_acts, drain_answered, drain_outs, drain_run, drain_says, drain_shows, drain_told, drain_unlineaged, drained_guest, drained_is, events_answered, events_run, events_unlineaged, guest_own, items_split, leads_split, quiets, quiets_say, quiets_show, still_runs, with_guest}
 
@@ -227,11 +227,9 @@ module _ (s : Start) (m : Machine) (talk : List Out) (took : List Item) (taken :
 -- ---- what is left of a turn, told to its end or not
 
 -- what a slice says of its events
-pub slice_gone : (es : List Entry) (w v : WorldValue) (asked now : HostKnown) → IsSerial w es v
-    → All (λ (e : Entry). IsThere (length w.harts) 0 e.actor) es → ClockWasAsked asked.clock es now.clock → now.devices ≡ asked.devices
-    → EventsGone es w v asked now
-slice_gone es w v asked now serial there was same g is =
-    (serial g is, was, rw same (unasked_there (length w.harts) es asked.devices there), ports_there (length w.harts) es there)
+pub slice_gone : (es : List Entry) (w v : WorldValue) (asked now : HostKnown) → IsSerial w es v → ClockWasAsked asked.clock es now.clock
+    → WereAsked asked.devices es now.devices × HavePorts es → EventsGone es w v asked now
+slice_gone es w v asked now serial was answered g is = (serial g is, was, answered.0, answered.1)
 
 -- what a round says
 pub round_gone : (but : Option ℕ) (es : List Entry) (w v : WorldValue) (asked now : ClockKnown) (devices : DevicesKnown)
@@ -248,7 +246,15 @@ pub devices_gone : (es : List Entry) (w v : WorldValue) (clock : ClockKnown) (as
 devices_gone es w v clock asked now serial made was g is =
     (serial g is, clock_rests clock es (made g is), was g is, ports_devices es (made g is))
 
--- so it happened, where the clock alone was asked, or the objects of devices were
+-- so it happened, where the clock and the objects of devices were asked, and the disks settled behind that
+pub host_happened : (es told : List Entry) (first mid now : TurnKnown) (w v : WorldValue) → told ≡ es → now ≡ mid
+    → mid ≡ with_host first mid.host → EventsGone es w v first.host mid.host → HasHappened (event_items told) first w now v
+host_happened es told first mid now w v same settled asked gone = record {
+  trace = ap (λ (k : TurnKnown). k.trace) (settled ∙ asked);
+  gone = host_gone es told w v first.host mid.host now.host same (ap (λ (k : TurnKnown). k.host) settled) gone;
+}
+
+-- where the clock alone was asked, or the objects of devices were
 pub clock_happened : (es told : List Entry) (first now : TurnKnown) (w v : WorldValue) → told ≡ es
     → now ≡ with_clock first now.host.clock → EventsGone es w v first.host (record first.host { clock = now.host.clock })
     → HasHappened (event_items told) first w now v

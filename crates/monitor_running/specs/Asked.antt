@@ -4,7 +4,6 @@ use Rattle.vm_types.specs.declared.ids.ActorId.{ActorId}
 use Rattle.vm_types.specs.declared.op.Op.{Op}
 use Rattle.vm_types.specs.declared.reply.Reply.{Reply}
 use Rattle.vm_outside.specs.Known.{Health}
-use Rattle.vm_host.specs.declared.host.Host.{Host}
 use Rattle.vm_host.specs.Framing.{LinkKnown}
 use Rattle.vm_host.specs.Giving.{GuestWordsKnown}
 use Rattle.vm_host.specs.Hosting.{VsockKnown}
@@ -23,6 +22,8 @@ use Rattle.flat_trace.specs.Showing.{Out, Run, items_of}
 use Rattle.slice_runner.specs.Runs.{HasAnswered}
 use Rattle.monitor_machine.specs.Kinds.{DevicesKnown, disks, links, vsocks, words}
 use Rattle.monitor_machine.specs.Objects.{AreNamed, Named, Uncalled}
+use Rattle.monitor_running.specs.declared.hosting.DeviceHost.{DeviceHost}
+use Rattle.monitor_running.specs.declared.hosting.TurnHost.{TurnHost}
 use Rattle.monitor_running.specs.Devices.{AsksDevices, DevicesRest}
 
 -- what is known of the clock, and of the objects that devices ask
@@ -30,12 +31,15 @@ pub record HostKnown : Type 0 where
   pub clock : ClockKnown
   pub devices : DevicesKnown
 
+abbrev pub devices_known : {D L V G : Type 0} → (D → DiskKnown) → (L → LinkKnown) → (V → VsockKnown) → (G → GuestWordsKnown)
+    → DeviceHost D L V G → DevicesKnown
+devices_known disk link vsock guest_words host =
+    record { disk = disk host.disk; link = link host.link; vsock = vsock host.vsock; words = guest_words host.guest_words }
+
 abbrev pub host_known : {D L V G C : Type 0} → (C → ClockKnown) → (D → DiskKnown) → (L → LinkKnown) → (V → VsockKnown) → (G → GuestWordsKnown)
-    → Host D L V G C → HostKnown
-host_known clock disk link vsock guest_words host = record {
-  clock = clock host.clock;
-  devices = record { disk = disk host.disk; link = link host.link; vsock = vsock host.vsock; words = guest_words host.guest_words };
-}
+    → TurnHost D L V G C → HostKnown
+host_known clock disk link vsock guest_words host =
+    record { clock = clock host.clock; devices = devices_known disk link vsock guest_words host.devices }
 
 -- the health of each object that devices ask and that is attached by a name
 pub record Healths : Type 0 where

@@ -1,10 +1,11 @@
 -- What devices ask of the host's objects, and the events that they make.
-use Rattle.std.specs.Prelude.{ℕ, ◌≡◌, ◌<◌, ◌≤◌, true, All, List, [], ◌∷◌, Option, Some, None, length}
+use Rattle.std.specs.Prelude.{ℕ, ◌≡◌, ◌<◌, ◌≤◌, ◌&&◌, nat_eq, nat_lt, Bool, true, false, All, List, [], ◌∷◌, Option, Some, None, length}
 use Rattle.vm_types.specs.Fits.{out_fits}
 use Rattle.vm_types.specs.declared.entry.Entry.{Entry}
 use Rattle.vm_types.specs.declared.ids.ActorId.{ActorId}
 use Rattle.vm_types.specs.declared.op.Op.{Op}
-use Rattle.vm_types.specs.declared.op.OutOp.TheVariants.{DiskFlush, DiskRead, DiskWrite, DrawWord, HostClose, HostDial, HostNext, HostSend, LinkEnd, LinkPart, LinkSend, LinkTake}
+use Rattle.vm_types.specs.declared.op.OutOp.{OutOp}
+use Rattle.vm_types.specs.declared.op.OutOp.TheVariants.{Clock, DiskFlush, DiskRead, DiskWrite, DrawWord, HostClose, HostDial, HostNext, HostSend, LinkEnd, LinkPart, LinkSend, LinkTake}
 use Rattle.vm_types.specs.declared.reply.Reply.{Reply}
 use Rattle.port_table.specs.Window.{most_ports}
 use Rattle.flat_guest.specs.Guest.{Guest}
@@ -70,6 +71,18 @@ CanBeAsked (Op.Out (HostSend piece connection)) = Unit {0}
 CanBeAsked (Op.Out (HostClose connection)) = Unit {0}
 CanBeAsked (Op.Out DrawWord) = Unit {0}
 CanBeAsked op = ⊥
+
+-- the same, asked of the call
+abbrev pub can_be_asked : OutOp → Bool
+can_be_asked Clock = false
+can_be_asked (DiskRead sector part) = nat_lt part 8
+can_be_asked (DiskWrite sector part bytes) = nat_lt part 8 && nat_eq (length bytes) 64
+can_be_asked act = true
+
+-- the object whose call it is answers the device with this number, and no more of a socket than an act gives
+abbrev pub AnswersDevice : ℕ → OutOp → Reply → DevicesKnown → DevicesKnown → Type 0
+AnswersDevice device act reply old new =
+    IsShort (Op.Out act) reply × AsksDevices (Op.Out act) (ActorId.Device device) reply old new
 
 -- ---- the events of devices
 

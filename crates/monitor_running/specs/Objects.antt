@@ -19,7 +19,10 @@ pub record TurnKnown : Type 0 where
 abbrev pub known_with : TurnKnown → SinkKnown → Known
 known_with given sink = known given.trace sink given.host
 
--- with another clock, other objects of devices, or another trace
+-- with another clock and other objects of devices, or one of both, or another trace
+abbrev pub with_host : TurnKnown → HostKnown → TurnKnown
+with_host given host = record given { host = host }
+
 abbrev pub with_clock : TurnKnown → ClockKnown → TurnKnown
 with_clock given clock = record given { host = record given.host { clock = clock } }
 

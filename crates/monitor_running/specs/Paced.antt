@@ -1,5 +1,5 @@
 -- Which turns several harts make side by side, as a slice, and which one after another, in rotation, by what steers them.
-use Rattle.std.specs.Prelude.{ℕ, zero, suc, ◌≡◌, ◌≢◌, ◌+◌, ◌/◌, ◌≤◌, min, List, Option, Some, None, All, length}
+use Rattle.std.specs.Prelude.{ℕ, zero, suc, ◌≡◌, ◌≢◌, ◌+◌, ◌/◌, ◌≤◌, ◌&&◌, nat_le, nat_lt, if◌then◌else◌, min, List, Option, Some, None, All, length}
 use Rattle.pause_gate.specs.Tally.{Tally}
 use Rattle.vm_types.specs.declared.entry.Entry.{Entry}
 use Rattle.flat_guest.specs.Guest.{Guest}
@@ -24,9 +24,18 @@ pub record AreSeveral (there : ℕ) (w : WorldValue) : Type 0 where
   pub some : AllIdle w → ⊥
   pub more : (k : ℕ) → IsAlone k w → ⊥
 
--- So many steps each actor makes in a slice at most: as many as are asked for, and all together 65,536.
-abbrev pub slice_steps : ℕ → WorldValue → ℕ
-slice_steps steps w = min steps (65536 / (length w.harts + 1))
+-- So many devices act in a slice for which there are so many passes: one that is alone, if each actor has a pass. Of two it isn't known
+-- whether their calls are in the order of the slice's events.
+abbrev pub acting_in : ℕ → WorldValue → ℕ
+acting_in there w =
+    if nat_le (length w.devices) 1 && nat_lt (length w.harts + length w.devices) there then length w.devices else 0
+
+-- So many steps each actor makes in a slice at most, in which so many devices act: as many as are asked for, and all together 65,536.
+abbrev pub slice_steps : ℕ → ℕ → WorldValue → ℕ
+slice_steps steps devices w = min steps (65536 / (length w.harts + (devices + 1)))
+
+abbrev pub steps_in : ℕ → ℕ → WorldValue → ℕ
+steps_in steps there w = slice_steps steps (acting_in there w) w
 
 -- A slice was made: each actor asked the gate with a pass of its own before each of its events. The console may be drained behind it.
 pub record WasSliced {Q : Type 0} (tally : Q → Tally) (steps : ℕ) (old : WorldValue) (before : List Q) (new : WorldValue)
@@ -35,7 +44,7 @@ pub record WasSliced {Q : Type 0} (tally : Q → Tally) (steps : ℕ) (old : Wor
   pub stops : List Stopped
   pub mid : WorldValue
   pub serial : IsSerial old events mid
-  pub stopped : AreStopped tally (slice_steps steps old) 0 old events mid stops before after
+  pub stopped : AreStopped tally (steps_in steps (length before) old) (acting_in (length before) old) old events mid stops before after
   pub drained : MayBeDrained mid new
 
 -- How a turn of harts was made, by what steered it before it, and what steers the next one. The pace has how many turns may be made in
@@ -59,7 +68,7 @@ pub record SteersAlike {Q : Type 0} (was now : Steering Q) : Type 0 where
   pub steps : now.pace.steps ≡ was.pace.steps
   pub left : now.pace.left ≡ was.pace.left
 
--- the devices acted, and the console may be drained behind that
+-- the devices acted, unless they do beside the harts, and the console may be drained behind that
 pub record HasActed (old new : WorldValue) : Type 0 where
   pub events : List Entry
   pub mid : WorldValue

@@ -4,8 +4,8 @@ ghost use Rattle.vm_types.specs.declared.op.Op.TheVariants.{Out};
 ghost use Rattle.vm_types.specs.declared.op.OutOp.TheVariants as out;
 ghost use Rattle.vm_outside.specs.Known.{Lasts};
 ghost use Rattle.monitor_machine.specs.Kinds.{disks, links, vsocks, words};
-ghost use Rattle.monitor_running.specs.Devices.{CanBeAsked, IsGiven, IsGivenBy};
-ghost use Rattle.monitor_running.specs.Objects.{with_devices, with_disk, with_guest_words, with_link, with_vsock};
+ghost use Rattle.monitor_running.specs.Devices.{CanBeAsked, IsGiven, IsGivenBy, can_be_asked};
+ghost use Rattle.monitor_running.specs.Objects.{with_devices};
 
 use crate::objects::TurnObjects;
 use vm_host::{Disk, GuestWords, HostEvent, Link, VsockHost};
@@ -69,9 +69,9 @@ fn flush<D: Disk>(disk: &mut D, device: u8) -> Reply
     }
 }
 
-// `None` where no disk is called, or as no disk is called: no device asks for a part that a sector has not, or writes another number
-// of bytes than a part has.
-fn ask_disk<D: Disk>(disk: &mut D, device: u8, act: &OutOp) -> Option<Reply>
+/// `None` where no disk is called, or as no disk is called: no device asks for a part that a sector has not, or writes another number
+/// of bytes than a part has.
+pub fn ask_disk<D: Disk>(disk: &mut D, device: u8, act: &OutOp) -> Option<Reply>
     ensures given { IsGivenBy disks device (Out act.now) (D.known disk.old) result (D.known disk.new) }
     ensures asked { CanBeAsked (Out act.now) → disks.is_call act.now ≡ true → IsSome result }
     ensures lasts { Lasts (D.known disk.old).health (D.known disk.new).health }
@@ -133,8 +133,8 @@ fn send_end<L: Link>(link: &mut L, device: u8) -> Reply
     }
 }
 
-// `None` where no link is called.
-fn ask_link<L: Link>(link: &mut L, device: u8, act: &OutOp) -> Option<Reply>
+/// `None` where no link is called.
+pub fn ask_link<L: Link>(link: &mut L, device: u8, act: &OutOp) -> Option<Reply>
     ensures given { IsGivenBy links device (Out act.now) (L.known link.old) result (L.known link.new) }
     ensures asked { links.is_call act.now ≡ true → IsSome result }
     ensures lasts { Lasts (L.known link.old).health (L.known link.new).health }
@@ -203,8 +203,8 @@ fn close<V: VsockHost>(vsock: &mut V, device: u8, connection: u32) -> Reply
     }
 }
 
-// `None` where the host's end isn't called.
-fn ask_vsock<V: VsockHost>(vsock: &mut V, device: u8, act: &OutOp) -> Option<Reply>
+/// `None` where the host's end isn't called.
+pub fn ask_vsock<V: VsockHost>(vsock: &mut V, device: u8, act: &OutOp) -> Option<Reply>
     ensures given { IsGivenBy vsocks device (Out act.now) (V.known vsock.old) result (V.known vsock.new) }
     ensures asked { vsocks.is_call act.now ≡ true → IsSome result }
     ensures lasts { Lasts (V.known vsock.old).health (V.known vsock.new).health }
@@ -230,8 +230,8 @@ fn draw<G: GuestWords>(guest_words: &mut G, device: u8) -> Reply
     }
 }
 
-// `None` where no word is asked for.
-fn ask_words<G: GuestWords>(guest_words: &mut G, device: u8, act: &OutOp) -> Option<Reply>
+/// `None` where no word is asked for.
+pub fn ask_words<G: GuestWords>(guest_words: &mut G, device: u8, act: &OutOp) -> Option<Reply>
     ensures given { IsGivenBy words device (Out act.now) (G.known guest_words.old) result (G.known guest_words.new) }
     ensures asked { words.is_call act.now ≡ true → IsSome result }
     ensures lasts { Lasts (G.known guest_words.old).health (G.known guest_words.new).health }
@@ -244,40 +244,20 @@ fn ask_words<G: GuestWords>(guest_words: &mut G, device: u8, act: &OutOp) -> Opt
 
 // ---- all of them
 
-// The same of the disks that turns are given.
-fn ask_their_disk<W: TurnObjects>(with: &mut W, device: u8, act: &OutOp) -> Option<Reply>
-    ensures given { IsGiven device (Out act.now) (W.known with.old).host.devices result (W.known with.new).host.devices }
-    ensures asked { CanBeAsked (Out act.now) → disks.is_call act.now ≡ true → IsSome result }
-    ensures beside { W.known with.new ≡ with_disk (W.known with.old) (W.known with.new).host.devices.disk }
+/// Whether a call can be made: a sector has eight parts of 64 bytes, and no device asks the clock.
+pub fn can_be_asked(act: &OutOp) -> bool
+    ensures { result ≡ can_be_asked act.now }
 {
-    ask_disk(with.disk(), device, act)
-}
-
-// Of their links.
-fn ask_their_link<W: TurnObjects>(with: &mut W, device: u8, act: &OutOp) -> Option<Reply>
-    ensures given { IsGiven device (Out act.now) (W.known with.old).host.devices result (W.known with.new).host.devices }
-    ensures asked { links.is_call act.now ≡ true → IsSome result }
-    ensures beside { W.known with.new ≡ with_link (W.known with.old) (W.known with.new).host.devices.link }
-{
-    ask_link(with.link(), device, act)
-}
-
-// Of their end of the vsock device.
-fn ask_their_vsock<W: TurnObjects>(with: &mut W, device: u8, act: &OutOp) -> Option<Reply>
-    ensures given { IsGiven device (Out act.now) (W.known with.old).host.devices result (W.known with.new).host.devices }
-    ensures asked { vsocks.is_call act.now ≡ true → IsSome result }
-    ensures beside { W.known with.new ≡ with_vsock (W.known with.old) (W.known with.new).host.devices.vsock }
-{
-    ask_vsock(with.vsock(), device, act)
-}
-
-// And of their words.
-fn ask_their_words<W: TurnObjects>(with: &mut W, device: u8, act: &OutOp) -> Option<Reply>
-    ensures given { IsGiven device (Out act.now) (W.known with.old).host.devices result (W.known with.new).host.devices }
-    ensures asked { words.is_call act.now ≡ true → IsSome result }
-    ensures beside { W.known with.new ≡ with_guest_words (W.known with.old) (W.known with.new).host.devices.words }
-{
-    ask_words(with.guest_words(), device, act)
+    match act {
+        OutOp::Clock => false,
+        OutOp::DiskRead { sector: _, part } => *part < PARTS,
+        OutOp::DiskWrite {
+            sector: _,
+            part,
+            piece,
+        } => *part < PARTS && piece.len() == 64,
+        _ => true,
+    }
 }
 
 /// What its host object answers a device that asks this: the object of the kind whose call it is. `None` where it asks none, or as no
@@ -290,18 +270,6 @@ pub fn ask_host<W: TurnObjects>(with: &mut W, device: u8, op: &Op) -> Option<Rep
     let Op::Out(act) = op else {
         return None;
     };
-    match act {
-        OutOp::Clock => None,
-        OutOp::DiskRead { .. } | OutOp::DiskWrite { .. } | OutOp::DiskFlush => {
-            ask_their_disk(with, device, act)
-        }
-        OutOp::LinkTake | OutOp::LinkPart { .. } | OutOp::LinkSend { .. } | OutOp::LinkEnd => {
-            ask_their_link(with, device, act)
-        }
-        OutOp::HostNext
-        | OutOp::HostDial { .. }
-        | OutOp::HostSend { .. }
-        | OutOp::HostClose { .. } => ask_their_vsock(with, device, act),
-        OutOp::DrawWord => ask_their_words(with, device, act),
-    }
+    let host = with.host();
+    host.devices.ask(device, act)
 }

@@ -29,6 +29,7 @@ ghost use Rattle.monitor_running.specs.Objects.{with_devices};
 use crate::asking::ask_host;
 use crate::objects::TurnObjects;
 use port_table::MOST_DEVICES;
+use slice_runner::Devices;
 use std::alloc::{AllocError, Global};
 use vm_host::Disk;
 use vm_types::{ActorId, Entry, Op};
@@ -113,6 +114,16 @@ fn settle_disks<W: TurnObjects>(with: &mut W)
     ensures { W.known with.new ≡ W.known with.old }
 {
     with.disk().settle();
+}
+
+/// The disks settle where devices acted in a slice.
+pub fn settle_behind<W: TurnObjects>(with: &mut W, how: Devices)
+    ensures { W.known with.new ≡ W.known with.old }
+{
+    match how {
+        Devices::Act => settle_disks(with),
+        Devices::Rest => {}
+    }
 }
 
 /// Events of each device, in order of their numbers: of each until it has waited, which is made too, or `most` are made.

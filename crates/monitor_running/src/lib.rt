@@ -14,6 +14,7 @@ mod alone;
 mod asking;
 mod devices;
 mod gating;
+mod hosting;
 mod objects;
 mod pacing;
 mod ran;
@@ -25,6 +26,7 @@ mod waiting;
 mod working;
 
 pub use devices::run_devices;
+pub use hosting::{DeviceHost, TurnHost};
 pub use objects::{TracedHost, TurnObjects};
 pub use pacing::Pace;
 pub use ran::Ran;

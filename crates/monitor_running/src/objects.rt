@@ -1,15 +1,19 @@
 // What turns are given, as one object.
 ghost use Rattle.std.specs.Prelude.{◌≡◌, refl};
 ghost use Rattle.std.specs.Borrow.{Lends, sem};
-ghost use Rattle.monitor_running.specs.Objects.{with_clock, with_disk, with_guest_words, with_link, with_trace, with_vsock};
+ghost use Rattle.monitor_running.specs.Asked.{host_known};
+ghost use Rattle.monitor_running.specs.Objects.{with_clock, with_disk, with_guest_words, with_host, with_link, with_trace, with_vsock};
 
+use crate::hosting::TurnHost;
 use serve_host::Trace;
-use vm_host::{Clock, Disk, GuestWords, Host, Link, VsockHost};
+use vm_host::{Clock, Disk, GuestWords, Link, VsockHost};
 
 /// What turns of a machine are given beside the sink: the clock, the disks, the links, the host's end of the vsock device and the words
 /// for entropy devices, which its actors ask, and the trace. Each is lent.
 pub trait TurnObjects: Drop {
     ghost use Rattle.monitor_running.specs.Objects.{TurnKnown};
+    ghost use Rattle.monitor_running.specs.declared.hosting.TurnHost.{TurnHost};
+    ghost use Rattle.monitor_running.specs.contracts.hosting.TurnHost.{the_row};
 
     type C: Clock + Send;
 
@@ -25,7 +29,10 @@ pub trait TurnObjects: Drop {
 
     ghost known: { Self → TurnKnown };
 
-    // the same objects with this one in the place of theirs
+    // the same objects with this host in the place of theirs
+    ghost host_as: { Self → TurnHost Self.D Self.L Self.V Self.G Self.C → Self };
+
+    // and with one object of another
     ghost clock_as: { Self → Self.C → Self };
 
     ghost disk_as: { Self → Self.D → Self };
@@ -37,6 +44,12 @@ pub trait TurnObjects: Drop {
     ghost guest_words_as: { Self → Self.G → Self };
 
     ghost trace_as: { Self → Self.T → Self };
+
+    /// The clock and what devices ask, both at once.
+    fn host(&mut self) -> &mut TurnHost<Self::D, Self::L, Self::V, Self::G, Self::C>
+        ensures* lends { sem 𝓛 (Lends Self.row (the_row Self.D.row Self.L.row Self.V.row Self.G.row Self.C.row)
+            self.entry result (host_as self.old)) }
+        ensures value { host_known Self.C.known Self.D.known Self.L.known Self.V.known Self.G.known result.now ≡ (known self.old).host };
 
     /// The clock.
     fn clock(&mut self) -> &mut Self::C
@@ -68,6 +81,9 @@ pub trait TurnObjects: Drop {
         ensures* lends { sem 𝓛 (Lends Self.row Self.T.row self.entry result (trace_as self.old)) }
         ensures value { Self.T.known result.now ≡ (known self.old).trace };
 
+    ghost host_set: { (x : Self) (host : TurnHost Self.D Self.L Self.V Self.G Self.C) →
+        known (host_as x host) ≡ with_host (known x) (host_known Self.C.known Self.D.known Self.L.known Self.V.known Self.G.known host) };
+
     ghost clock_set: { (x : Self) (c : Self.C) → known (clock_as x c) ≡ with_clock (known x) (Self.C.known c) };
 
     ghost disk_set: { (x : Self) (d : Self.D) → known (disk_as x d) ≡ with_disk (known x) (Self.D.known d) };
@@ -85,7 +101,7 @@ pub trait TurnObjects: Drop {
 /// A host, and the trace of what its actors do.
 #[derive(Drop)]
 pub struct TracedHost<D, L, V, G, C, T> {
-    pub host: Host<D, L, V, G, C>,
+    pub host: TurnHost<D, L, V, G, C>,
     pub trace: T,
 }
 
@@ -113,17 +129,23 @@ impl<
 
     ghost known = { traced_known T.known C.known D.known L.known V.known G.known };
 
+    ghost host_as = { λ it host. record it { host = host } };
+
     ghost clock_as = { λ it clock. record it { host = record it.host { clock = clock } } };
 
-    ghost disk_as = { λ it disk. record it { host = record it.host { disk = disk } } };
+    ghost disk_as = { λ it disk. record it { host = record it.host { devices = record it.host.devices { disk = disk } } } };
 
-    ghost link_as = { λ it link. record it { host = record it.host { link = link } } };
+    ghost link_as = { λ it link. record it { host = record it.host { devices = record it.host.devices { link = link } } } };
 
-    ghost vsock_as = { λ it vsock. record it { host = record it.host { vsock = vsock } } };
+    ghost vsock_as = { λ it vsock. record it { host = record it.host { devices = record it.host.devices { vsock = vsock } } } };
 
-    ghost guest_words_as = { λ it words. record it { host = record it.host { guest_words = words } } };
+    ghost guest_words_as = { λ it words. record it { host = record it.host { devices = record it.host.devices { guest_words = words } } } };
 
     ghost trace_as = { λ it trace. record it { trace = trace } };
+
+    fn host(&mut self) -> &mut TurnHost<D, L, V, G, C> {
+        &mut self.host
+    }
 
     fn clock(&mut self) -> &mut C {
         let host = &mut self.host;
@@ -132,27 +154,33 @@ impl<
 
     fn disk(&mut self) -> &mut D {
         let host = &mut self.host;
-        &mut host.disk
+        let devices = &mut host.devices;
+        &mut devices.disk
     }
 
     fn link(&mut self) -> &mut L {
         let host = &mut self.host;
-        &mut host.link
+        let devices = &mut host.devices;
+        &mut devices.link
     }
 
     fn vsock(&mut self) -> &mut V {
         let host = &mut self.host;
-        &mut host.vsock
+        let devices = &mut host.devices;
+        &mut devices.vsock
     }
 
     fn guest_words(&mut self) -> &mut G {
         let host = &mut self.host;
-        &mut host.guest_words
+        let devices = &mut host.devices;
+        &mut devices.guest_words
     }
 
     fn trace(&mut self) -> &mut T {
         &mut self.trace
     }
+
+    ghost host_set = { λ it host. refl };
 
     ghost clock_set = { λ it clock. refl };
 

@@ -3,21 +3,21 @@ ghost use Rattle.std.specs.Prelude.{◌≡◌, ◌≢◌, ◌⊎◌, ◌↔◌, 
 ghost use Rattle.vm_host.specs.Telling as clocks;
 ghost use Rattle.flat_guest.specs.Guest.{Guest};
 ghost use Rattle.vm_world.specs.Worlds.{IsSameButSpare, IsWorld};
-ghost use Rattle.slice_runner.specs.Slices.{ClockWasAsked, IsSerial, IsThere};
+ghost use Rattle.slice_runner.specs.Slices.{ClockWasAsked, DevicesAnswered, IsSerial, IsThere, acting};
 ghost use Rattle.slice_runner.specs.Stops.{AreStopped};
 ghost use Rattle.monitor_machine.specs.State.{IsLive};
-ghost use Rattle.monitor_running.specs.Devices.{IsDevices, WereAsked};
+ghost use Rattle.monitor_running.specs.Devices.{AnswersDevice, IsDevices, WereAsked};
 ghost use Rattle.monitor_running.specs.declared.ran.Ran.TheVariants as ran;
 ghost use Rattle.monitor_running.specs.Passes.{ArePassed};
 ghost use Rattle.monitor_running.specs.Ran.{IsOff, Went};
-ghost use Rattle.monitor_running.specs.Objects.{known_with, with_clock, with_devices};
-ghost use Rattle.monitor_running.specs.Paced.{AreSeveral, EndsPaced, HasActed, IsMachineTurn, IsPaced, IsWorldTurn, slice_steps};
+ghost use Rattle.monitor_running.specs.Objects.{known_with, with_clock, with_devices, with_host};
+ghost use Rattle.monitor_running.specs.Paced.{AreSeveral, EndsPaced, HasActed, IsMachineTurn, IsPaced, IsWorldTurn, acting_in, slice_steps};
 ghost use Rattle.monitor_running.specs.Pacing.{ask_time};
 ghost use Rattle.monitor_running.specs.Reached.{Known};
 ghost use Rattle.monitor_running.specs.Turned.{IsTurn, IsTurnPart};
 
 use crate::alone::{MOST_ALONE, Turn, lone_hart, run_alone};
-use crate::devices::run_devices;
+use crate::devices::{run_devices, settle_behind};
 use crate::gating::is_open;
 use crate::objects::TurnObjects;
 use crate::pacing::Pace;
@@ -31,7 +31,7 @@ use guest_memory::HART_LIMIT;
 use monitor_machine::LiveMachine;
 use pause_gate::Gate;
 use port_table::MOST_DEVICES;
-use slice_runner::{Devices, NoObjects, Slice, run_slice};
+use slice_runner::{Devices, Slice, run_slice};
 use std::alloc::{AllocError, Global};
 use std::sync::Wait;
 use std::thread::Threads;
@@ -58,48 +58,66 @@ fn has_passes(world: &World, passes: usize) -> bool
     harts <= HART_LIMIT && harts < passes
 }
 
-// So many steps of each actor as are asked for, or as many as a slice has room for.
-fn steps_each(world: &World, steps: u32) -> u32
+// Whether the devices act in a slice with so many passes. One device alone does, where each actor has a pass: of two it isn't known
+// whether their calls are in the order of the slice's events.
+fn who_acts(world: &World, passes: usize) -> Devices
     requires { length world.now.harts ≤ 32 }
-    ensures { result ≡ slice_steps steps world.now }
+    ensures { acting result world.now ≡ acting_in passes world.now }
 {
-    let actors = world.hart_count() as u32 + 1;
+    let devices = world.devices().len();
+    if devices <= 1 && world.hart_count() + devices < passes {
+        Devices::Act
+    } else {
+        Devices::Rest
+    }
+}
+
+// So many steps of each actor as are asked for, or as many as a slice has room for.
+fn steps_each(world: &World, how: Devices, steps: u32) -> u32
+    requires { (length world.now.harts ≤ 32) × (acting how world.now ≤ 16) }
+    ensures { result ≡ slice_steps steps (acting how world.now) world.now }
+{
+    let devices = how.acting(world.devices().len());
+    let actors = world.hart_count() as u32 + (devices as u32 + 1);
     steps.min(MOST_STEPS / actors)
 }
 
-// A slice in which the devices rest, for which the clock is lent.
+// A slice, for which the clock and what devices ask are lent.
 fn slice_by<Q: Send + Drop, W: TurnObjects, G: Gate<Pass = Q> + Sync, R: Threads + Wait + Sync>(
     rt: &R,
     alloc: Global,
     world: &mut World,
     with: &mut W,
+    how: Devices,
     gate: &G,
     passes: &mut Vec<Q>,
     steps: u32,
 ) -> Result<Slice, AllocError>
-    requires harts { length world.old.harts ≤ 32 }
-    requires passes { length world.old.harts + 1 ≤ length passes.old.items }
+    requires actors { (length world.old.harts ≤ 32) × (acting how world.old ≤ 16) }
+    requires passes { length world.old.harts + (acting how world.old + 1) ≤ length passes.old.items }
     requires serve { All (G.serves gate.now) passes.old.items }
     ensures serial { IfOk result (λ slice. IsSerial world.old slice.events.items world.new) }
-    ensures actors { IfOk result (λ slice. All (λ e. IsThere (length world.old.harts) 0 e.actor) slice.events.items) }
-    ensures stops { IfOk result (λ slice.
-        AreStopped G.tally steps 0 world.old slice.events.items world.new slice.stops.items passes.old.items passes.new.items) }
+    ensures actors { IfOk result (λ slice. All (λ e. IsThere (length world.old.harts) (acting how world.old) e.actor) slice.events.items) }
+    ensures stops { IfOk result (λ slice. AreStopped G.tally steps (acting how world.old)
+        world.old slice.events.items world.new slice.stops.items passes.old.items passes.new.items) }
     ensures clock { IfOk result (λ slice.
         ClockWasAsked (W.known with.old).host.clock slice.events.items (W.known with.new).host.clock) }
+    ensures answered { IfOk result (λ slice. DevicesAnswered AnswersDevice slice.events.items 0 (acting how world.old)
+        (W.known with.old).host.devices (W.known with.new).host.devices) }
     ensures failed { OnErr result (IsSameButSpare world.old world.new
-        × ((W.known with.new).host.clock ≡ (W.known with.old).host.clock) × (passes.new.items ≡ passes.old.items)) }
+        × ((W.known with.new).host ≡ (W.known with.old).host) × (passes.new.items ≡ passes.old.items)) }
     ensures serve { All (G.serves gate.now) passes.new.items }
     ensures same { length passes.new.items ≡ length passes.old.items }
-    ensures beside { W.known with.new ≡ with_clock (W.known with.old) (W.known with.new).host.clock }
+    ensures beside { W.known with.new ≡ with_host (W.known with.old) (W.known with.new).host }
 {
-    let mut none = NoObjects;
+    let host = with.host();
     run_slice(
         rt,
         alloc,
         world,
-        with.clock(),
-        &mut none,
-        Devices::Rest,
+        &mut host.clock,
+        &mut host.devices,
+        how,
         gate,
         passes,
         steps,
@@ -133,11 +151,13 @@ fn run_guest<
     ensures steps { steering.new.pace.steps ≡ steering.old.pace.steps }
 {
     let began = world.board().now();
-    let each = steps_each(world, steering.pace.steps);
+    let how = who_acts(world, steering.passes.len());
+    let each = steps_each(world, how, steering.pace.steps);
     let passes = &mut steering.passes;
-    let Ok(slice) = slice_by(rt, alloc, world, with, gate, passes, each) else {
+    let Ok(slice) = slice_by(rt, alloc, world, with, how, gate, passes, each) else {
         return Some(Ran::OutOfMemory);
     };
+    settle_behind(with, how);
     let end = tell_slice(slice.events.as_slice(), world, with, sink);
     let ended = world.board().now();
     steering
@@ -313,7 +333,39 @@ fn run_or_wait<
     run_several(rt, alloc, world, with, gate, steering, sink)
 }
 
-// The devices act, and then the harts and the timer.
+// Whether the next turn is a slice with so many passes in which devices act.
+fn act_beside(world: &World, passes: usize, pace: &Pace) -> bool {
+    if pace.left != 0 || !has_passes(world, passes) {
+        return false;
+    }
+    if all_wait(world) || lone_hart(world).is_some() {
+        return false;
+    }
+    who_acts(world, passes).acting(world.devices().len()) != 0
+}
+
+// The devices act before the harts and the timer, unless they do beside them.
+fn act_before<W: TurnObjects, K: Sink>(
+    alloc: Global,
+    world: &mut World,
+    with: &mut W,
+    passes: usize,
+    pace: &mut Pace,
+    sink: &mut K,
+) -> Option<Ran>
+    ensures part { IsTurnPart result
+        (known_with (W.known with.old) (K.known sink.old)) world.old
+        (known_with (W.known with.new) (K.known sink.new)) world.new }
+    ensures acted { result ≡ None → HasActed world.old world.new }
+    ensures timed { pace.new ≡ record pace.old { is_timed = pace.new.is_timed } }
+{
+    if act_beside(world, passes, pace) {
+        return None;
+    }
+    act(alloc, world, with, pace, sink)
+}
+
+// The devices act, and then the harts and the timer; or all of them do in a slice.
 fn run_world<
     Q: Send + Drop,
     W: TurnObjects,
@@ -336,18 +388,20 @@ fn run_world<
     ensures paced { IsWorldTurn G.tally result steering.old world.old steering.new world.new }
     ensures steps { steering.new.pace.steps ≡ steering.old.pace.steps }
 {
-    if let Some(end) = act(alloc, world, with, &mut steering.pace, sink) {
+    let passes = steering.passes.len();
+    if let Some(end) = act_before(alloc, world, with, passes, &mut steering.pace, sink) {
         return Some(end);
     }
     run_or_wait(rt, alloc, world, with, gate, steering, sink)
 }
 
 /// One turn of a machine. Before it the devices act without the gate (`run_devices`), each of them 4,096 events at most, and all of
-/// them 16,384. Answers why turns end, or `None` where they may go on; it is `Off` where the guest is off, of which no turn is made.
+/// them 16,384; but where the turn is a slice in which devices act, none of them acts before it. Answers why turns end, or `None` where they may go on; it is `Off` where the guest is off, of which no turn is made.
 /// That the gate is closed is no end here.
 ///
 /// Where two harts or more have something to do the turn is a slice, of the pace's `steps` at most of each actor, and 65,536 of all of
-/// them. An actor asks the gate with a pass of its own before each step. Or it is a rotation, in one thread: two events of the timer
+/// them. A device acts in it, in the timer's thread and behind it, where it is the only one of the machine and has a pass too; its
+/// disk settles behind the slice. An actor asks the gate with a pass of its own before each step. Or it is a rotation, in one thread: two events of the timer
 /// and of each hart, then events of one hart after another, and the two events of each once more. The pace says which (`Pace`): a
 /// rotation where it made its events in less time than a slice when both were made last, and a slice the first time, and once in
 /// 10,001 turns at least. Where one hart alone has something to do, and each other one waits, it is two events of the timer and of each

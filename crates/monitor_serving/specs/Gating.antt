@@ -4,9 +4,10 @@ use Rattle.atomic_table.specs.Seated.{TableId}
 use Rattle.pause_gate.specs.declared.steps.Counts.{Counts}
 use Rattle.monitor_serving.specs.declared.gating.Gating.{Gating}
 
--- They are of this gate, and as many as turns may want: one for each of 32 harts, for the timer, and for who asks before each turn.
+-- They are of this gate, and as many as turns may want: one for each of 32 harts, for the timer, for a device that acts in a slice, and for
+-- who asks before each turn.
 pub record ArePasses (gate : TableId) (passes : List (TableId × Counts)) : Type 0 where
-  pub many : length passes ≡ 34
+  pub many : length passes ≡ 35
   pub serve : All (λ pass. pass.0 ≡ gate) passes
 
 -- all passes are of the gate that is beside them

@@ -6,8 +6,8 @@ use monitor_running::{Pace, Steering};
 use pause_gate::{FlagGate, Pass};
 use std::alloc::{AllocError, Global};
 
-/// A pass for each of 32 harts and the timer, one for who asks before each slice, and one for the reader.
-const PASSES: usize = 35;
+/// A pass for each of 32 harts, the timer and a device, one for who asks before each slice, and one for the reader.
+const PASSES: usize = 36;
 
 /// A gate, what steers the turns that ask it, and the pass of the reader, who closes it. In a slice each actor makes so many steps at most.
 /// The pace goes on, whoever makes the turns.

@@ -24,6 +24,9 @@ const TWO_HARTS: &str = "{\"vcpu_count\":2,\"mem_size_mib\":4}";
 
 const BOOT_SOURCE: &str = "{\"kernel_image_path\":\"image\"}";
 
+/// An entropy device, which waits for what its driver asks.
+const ENTROPY: &str = "{}";
+
 const INSTANCE_START: &str = "{\"action_type\":\"InstanceStart\"}";
 
 /// Writes down each item. After so many items it decides a meeting with itself, if the gate waits for one: then the gate is
@@ -34,6 +37,7 @@ pub struct Player<'a> {
     told: ByteList,
     moments: u64,
     taken: u64,
+    is_mixed: bool,
     left: u64,
     gate: &'a HoldGate,
     failing: Failing,
@@ -54,6 +58,7 @@ impl<'a> Player<'a> {
             told: ByteList::new(alloc),
             moments: 0,
             taken: 0,
+            is_mixed: false,
             left,
             gate,
             failing,
@@ -76,12 +81,25 @@ impl<'a> Player<'a> {
         self.taken
     }
 
+    /// Whether events of harts and of a device were told together.
+    pub fn is_mixed(&self) -> bool {
+        self.is_mixed
+    }
+
     // Whether this item is the next that is to fail.
     fn fails_at(&mut self, item: &Item) -> bool
         ensures { MatchBool result (IsCounted self.old.failing self.new.failing) (self.new.failing ≡ self.old.failing) }
     {
         (matches!(item, Item::Console) || !self.consoles_alone) && self.failing.fails()
     }
+}
+
+fn is_of_hart(event: &Entry) -> bool {
+    matches!(event.actor, ActorId::Hart(_))
+}
+
+fn is_of_device(event: &Entry) -> bool {
+    matches!(event.actor, ActorId::Device(_))
 }
 
 fn is_moment(item: &Item) -> bool {
@@ -173,6 +191,9 @@ impl Trace for Player<'_> {
     }
 
     fn add_events(&mut self, events: &[Entry]) -> Result<(), Failed> {
+        if events.iter().any(is_of_hart) && events.iter().any(is_of_device) {
+            self.is_mixed = true;
+        }
         for event in events {
             let Ok(item) = event_item(self.alloc, event) else {
                 self.failing.count();
@@ -218,23 +239,29 @@ fn start(
     machine: &mut LiveMachine,
     image: &[u8],
     harts: &str,
+    has_device: bool,
 ) -> Result<(), AllocError> {
     let mut files = files_with(alloc, "image", image)?;
     ask(alloc, machine, &mut files, "/machine-config", harts)?;
     ask(alloc, machine, &mut files, "/boot-source", BOOT_SOURCE)?;
+    if has_device {
+        ask(alloc, machine, &mut files, "/entropy", ENTROPY)?;
+    }
     ask(alloc, machine, &mut files, "/actions", INSTANCE_START)
 }
 
-/// A machine of 4 MiB that begins with this image, of which hart 0 has made so many steps. It is alone, or there are two.
+/// A machine of 4 MiB that begins with this image, of which hart 0 has made so many steps. It is alone, or there are two. There is an
+/// entropy device or none.
 pub fn machine_of(
     alloc: Global,
     is_alone: bool,
+    has_device: bool,
     image: &[u8],
     made: u64,
 ) -> Result<LiveMachine, AllocError> {
     let harts = if is_alone { ONE_HART } else { TWO_HARTS };
     let mut machine = LiveMachine::new(alloc, TextList::copy_of(alloc, "harts")?);
-    start(alloc, &mut machine, image, harts)?;
+    start(alloc, &mut machine, image, harts, has_device)?;
     machine.step(ActorId::Hart(0), made)?;
     Ok(machine)
 }

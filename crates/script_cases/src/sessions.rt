@@ -4,7 +4,7 @@ use crate::showing::{text_of, words_of};
 use crate::ticking::Ticks;
 use firecracker_cli::{ServeOutside, firecracker_main};
 use monitor_cli::{Outside, replay_main};
-use monitor_running::TracedHost;
+use monitor_running::{DeviceHost, TracedHost, TurnHost};
 use outside_mem::{
     Failing, MemoryDisk, MemoryFiles, MemoryGuestWords, MemoryLink, MemorySink, MemorySource,
     MemoryTrace, MemoryVsock, Numbers, SteadyWords,
@@ -15,7 +15,6 @@ use std::collections::VecDeque;
 use std::io;
 use std::sync::Wait;
 use std::thread::Threads;
-use vm_host::Host;
 use vm_outside::{Failed, Files};
 use vm_types::ByteList;
 
@@ -105,11 +104,14 @@ pub fn no_words(alloc: Global) -> MemoryGuestWords {
 /// The objects that a session is handed. The lineage is 77, and moments are 25 ns apart, so that the first slice ends before
 /// 299,008 ns.
 pub fn with_of(alloc: Global, session: &Session, disk: &[u8]) -> Result<With, AllocError> {
-    let host = Host {
+    let devices = DeviceHost {
         disk: disk_of(alloc, session, disk)?,
         link: no_link(alloc),
         vsock: no_vsock(alloc),
         guest_words: no_words(alloc),
+    };
+    let host = TurnHost {
+        devices,
         clock: Ticks::new(25),
     };
     let words = SteadyWords::new(Numbers::new([77].to_vec(alloc)?));

@@ -10,14 +10,13 @@ use crate::sessions::{no_link, no_vsock, no_words};
 use crate::showing::text_of;
 use crate::ticking::Ticks;
 use monitor_machine::LiveMachine;
-use monitor_running::{Pace, Ran, Steering, TracedHost, run_while};
+use monitor_running::{DeviceHost, Pace, Ran, Steering, TracedHost, TurnHost, run_while};
 use outside_mem::{Failing, MemoryDisk, MemoryGuestWords, MemoryLink, MemorySink, MemoryVsock};
 use pause_gate::{FlagGate, Gate, HoldGate, Party, Pass};
 use std::alloc::{AllocError, Global};
 use std::io;
 use std::sync::Wait;
 use std::thread::Threads;
-use vm_host::Host;
 use vm_types::{ActorId, PlaceId};
 use vm_world::World;
 
@@ -27,6 +26,7 @@ struct Row {
     name: &'static str,
     image: &'static [u8],
     is_alone: bool,
+    has_device: bool,
     made: u64,
     left: u64,
     meets: bool,
@@ -40,6 +40,7 @@ const TWO_HARTS: Row = Row {
     name: "two harts",
     image: &[],
     is_alone: false,
+    has_device: false,
     made: 0,
     left: u64::MAX,
     meets: false,
@@ -76,6 +77,15 @@ const SLICES: [Row; 4] = [
         ..TWO_HARTS
     },
 ];
+
+/// A device acts beside both harts.
+const WITH_A_DEVICE: Row = Row {
+    name: "slices with a device",
+    image: &ADDS_TO_ONE_WORD,
+    has_device: true,
+    left: 30_000,
+    ..TWO_HARTS
+};
 
 /// One hart alone runs, so that each item comes at its place.
 const TURNS: [Row; 6] = [
@@ -122,6 +132,7 @@ pub fn print<R: Threads + Wait + Print + AllocGlobal + Sync>(rt: &R) -> io::Resu
     for row in SLICES {
         print_row(rt, &row)?;
     }
+    print_row(rt, &WITH_A_DEVICE)?;
     for row in TURNS {
         let taken = print_row(rt, &row)?;
         println!(rt; "{}: items => {taken}", row.name)?;
@@ -131,7 +142,7 @@ pub fn print<R: Threads + Wait + Print + AllocGlobal + Sync>(rt: &R) -> io::Resu
 
 // How many items the trace took.
 fn print_row<R: Threads + Wait + Print + AllocGlobal + Sync>(rt: &R, row: &Row) -> io::Result<u64> {
-    let (flag, passes) = FlagGate::new(rt.alloc(), 3)?;
+    let (flag, passes) = FlagGate::new(rt.alloc(), 4)?;
     let pace = Pace::new(64);
     let mut steering = Steering { passes, pace };
     let gate = gate_of(flag, row);
@@ -171,8 +182,8 @@ struct Running<'a> {
 fn running_of<'a>(alloc: Global, row: &Row, gate: &'a HoldGate) -> Result<Running<'a>, AllocError> {
     let sink_fails = Failing::new(row.sink_fails.to_vec(alloc)?);
     let player = player_of(alloc, row, gate)?;
-    let machine = machine_of(alloc, row.is_alone, row.image, row.made)?;
-    let other = machine_of(alloc, row.is_alone, row.image, row.made)?;
+    let machine = machine_of(alloc, row.is_alone, row.has_device, row.image, row.made)?;
+    let other = machine_of(alloc, row.is_alone, row.has_device, row.image, row.made)?;
     Ok(Running {
         machine,
         other,
@@ -190,12 +201,17 @@ fn player_of<'a>(alloc: Global, row: &Row, gate: &'a HoldGate) -> Result<Player<
 }
 
 // Without a disk, a link or a socket.
-fn host_of(alloc: Global) -> Host<MemoryDisk, MemoryLink, MemoryVsock, MemoryGuestWords, Ticks> {
-    Host {
+fn host_of(
+    alloc: Global,
+) -> TurnHost<MemoryDisk, MemoryLink, MemoryVsock, MemoryGuestWords, Ticks> {
+    let devices = DeviceHost {
         disk: MemoryDisk::new(alloc, Vec::new(alloc), Failing::new(Vec::new(alloc))),
         link: no_link(alloc),
         vsock: no_vsock(alloc),
         guest_words: no_words(alloc),
+    };
+    TurnHost {
+        devices,
         clock: Ticks::new(100),
     }
 }
@@ -213,6 +229,9 @@ fn run_and_print<R: Threads + Wait + Print + AllocGlobal + Sync>(
     let end = run(rt, running, gate, steering);
     println!(rt; "{name}: slices end => {end}")?;
     println!(rt; "{name}: the meeting => {:?}", gate.meeting())?;
+    if running.turns.trace.is_mixed() {
+        println!(rt; "{name}: a device acts beside harts")?;
+    }
     print_running(rt, name, running)?;
     print_player(rt, name, running)
 }

@@ -16,7 +16,7 @@ returns-in-Some-clause-paced g c = Devices (λ is. cc) (ap (λ (p : Pace). p.lef
 pub returns-clause-paced : goal.returns-clause-paced
 returns-clause-paced g c =
     let timed = c.in_default.ensures.timed in
-    Harts c.act.new.world (record c.args.steering.now { pace = c.act.new.pace }) (c.in_default.ensures.acted refl)
+    Harts c.act_before.new.world (record c.args.steering.now { pace = c.act_before.new.pace }) (c.in_default.ensures.acted refl)
     (record { passes = refl; steps = ap (λ (p : Pace). p.steps) timed; left = ap (λ (p : Pace). p.left) timed })
     c.run_or_wait.ensures.paced
 
