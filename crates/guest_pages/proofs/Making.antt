@@ -9,6 +9,7 @@ use Rattle.guest_pages.specs.Flat.{ArePages, AreSummed, IsSet, reserved_of}
 use Rattle.guest_pages.specs.declared.page_set.code.CodePage.{CodePage}
 use Rattle.guest_pages.specs.Made.{PagesValue, is_made, unmade, CanMake, Takes, HasRoom, Spends, is_ready}
 use Rattle.guest_pages.specs.Pages.{PageValue, cleared, marks_of, new_page, new_pages, unmarked}
+use Rattle.guest_pages.proofs.Blanks.{takes_none}
 use Rattle.guest_pages.proofs.Blocks.{none_summed, summed_same}
 use Rattle.guest_pages.proofs.Marking.{marks_cleared}
 use Rattle.guest_pages.proofs.Reserved.{cleared_holds}
@@ -116,6 +117,19 @@ module _ (value : PagesValue) (pages : List PageValue) (i : ℕ) (old new : Page
         let sums = unmade_set pages i old new had has below was takes in
         let owns = is.owns in
         record { are = are; owns = omega (arith, sums, owns, length-set pages i new); summed = summed; holds = some }
+
+-- an act on a page that is made and stays so takes none
+pub none_spent : (value : PagesValue) (pages : List PageValue) (i : ℕ) (old new : PageValue) (spare : ℕ) → value ≡ record { pages = pages; spare = spare }
+    → i < length value.pages → old ≡ get_or pages i old → old.made ≡ true → new.made ≡ true → Spends 0 value (record { pages = set pages i new; spare = spare })
+none_spent value pages i old new spare view lt was made is =
+    let e = ap count_of view in
+    let below : i < length pages = omega (arith, e, lt) in
+    subst (λ (v : PagesValue). Spends 0 v (record { pages = set pages i new; spare = spare })) (sym view)
+    (record {
+      kept = unmade_set pages i old new spare spare below was (takes_none old new spare made is);
+      most = omega arith;
+      stays = λ k. set_made pages i old new k was (λ _. is);
+    })
 
 pub kept_made : (a b c : Bool) → c ≡ (a || b) → a ≡ true → c ≡ true
 kept_made true b c is made = is

@@ -251,7 +251,7 @@ impl Page {
     }
 
     // What a write of so many bytes does beside them: it ends what other harts have reserved there, and marks the page.
-    #[inline]
+    #[inline(always)]
     fn begin_write(&mut self, writer: ActorId, at: GuestAddr, len: usize)
         ensures { self.new ≡ record self.old {
           reserved = slots_after writer at len (32 * self.old.number) self.old.reserved;
@@ -279,7 +279,7 @@ impl Page {
     }
 
     /// The word of four bytes at an offset, the lowest byte first.
-    #[inline]
+    #[inline(always)]
     pub fn word_at(&self, offset: usize) -> u32
         requires { offset ≤ 4092 }
         ensures { bytes_of 4 result ≡ take 4 (drop offset self.now.bytes) }
@@ -289,7 +289,7 @@ impl Page {
     }
 
     /// The word of this width at an address, the lowest byte first.
-    #[inline]
+    #[inline(always)]
     pub fn read_word(&self, at: GuestAddr, width: Width) -> u64
         requires { is_within self.now.number 4096 at (width_bytes width) ≡ true }
         ensures { bytes_of (width_bytes width) result ≡ page_read self.now at (width_bytes width) }
@@ -299,7 +299,7 @@ impl Page {
     }
 
     /// Writes the low bytes of a word, the lowest first, and marks the page.
-    #[inline]
+    #[inline(always)]
     pub fn write_word(&mut self, writer: ActorId, at: GuestAddr, word: u64, width: Width)
         requires { is_within self.old.number 4096 at (width_bytes width) ≡ true }
         ensures { self.new ≡ page_written self.old writer at (bytes_of (width_bytes width) word) }
@@ -308,6 +308,26 @@ impl Page {
         let offset = offset_in(self.held.number, at);
         let bytes: &mut [u8; 4096] = &mut self.held.bytes;
         put_word(bytes, offset, word, width);
+    }
+
+    /// The same where the page is marked and no hart has anything reserved in it, so that only bytes change. Answers whether it is
+    /// written; else nothing is changed.
+    #[inline(always)]
+    pub fn write_marked(&mut self, at: GuestAddr, word: u64, width: Width) -> bool
+        requires { is_within self.old.number 4096 at (width_bytes width) ≡ true }
+        ensures written { result ≡ true → (writer : ActorId) →
+            self.new ≡ page_written self.old writer at (bytes_of (width_bytes width) word) }
+        ensures marked { result ≡ true → self.old.marked ≡ true }
+        ensures made { self.old.made ≡ true }
+        ensures left { result ≡ false → self.new ≡ self.old }
+    {
+        if !self.held.marked || self.held.holders != 0 {
+            return false;
+        }
+        let offset = offset_in(self.held.number, at);
+        let bytes: &mut [u8; 4096] = &mut self.held.bytes;
+        put_word(bytes, offset, word, width);
+        true
     }
 
     fn reserve(&mut self, actor: ActorId, held: Option<u16>)

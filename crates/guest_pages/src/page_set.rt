@@ -132,7 +132,7 @@ impl PageSet {
     }
 
     // The number of the page that has these bytes, or `None` where none has all of them.
-    #[inline]
+    #[inline(always)]
     fn find(&self, at: GuestAddr, len: usize) -> Option<usize>
         requires some { 1 ≤ len }
         requires few { len ≤ 4096 }
@@ -153,7 +153,7 @@ impl PageSet {
     }
 
     /// The word of this width at an address, the lowest byte first, or `None` where no page has all of its bytes.
-    #[inline]
+    #[inline(always)]
     pub fn read_word(&self, at: GuestAddr, width: Width) -> Option<u64>
         ensures { (actor : ActorId) → read_reply width result ≡ (served self.now.pages actor (read_of width at)).0 }
     {
@@ -165,7 +165,7 @@ impl PageSet {
 
     /// Writes the low bytes of a word, the lowest first, where a page has all of them, and answers whether one has. It takes no
     /// memory but a spare page.
-    #[inline]
+    #[inline(always)]
     pub fn write_word(&mut self, writer: ActorId, at: GuestAddr, word: u64, width: Width) -> bool
         requires { is_ready self.old (place_among self.old.pages (write_of width at word)) ≡ true }
         ensures reply { write_reply result ≡ (served self.old.pages writer (write_of width at word)).0 }
@@ -184,6 +184,24 @@ impl PageSet {
         self.pages[number].write_word(&mut self.spare, writer, at, word, width);
         note(&mut self.blocks, number);
         true
+    }
+
+    /// The same where the page is marked and no hart has anything reserved in it, as most pages that are written. Answers whether it is
+    /// written; else nothing is changed. It takes no memory.
+    #[inline(always)]
+    pub fn write_marked(&mut self, at: GuestAddr, word: u64, width: Width) -> bool
+        ensures reply { result ≡ true → (writer : ActorId) → write_reply true ≡ (served self.old.pages writer (write_of width at word)).0 }
+        ensures memory { result ≡ true → (writer : ActorId) → flat_of self.new.pages ≡ (served self.old.pages writer (write_of width at word)).1 }
+        ensures marks { result ≡ true → marks_of self.new.pages ≡ marks_after (place_among self.old.pages (write_of width at word))
+            (marks_of self.old.pages) (write_of width at word) (write_reply true) }
+        ensures left { result ≡ false → self.new ≡ self.old }
+        ensures count { length self.new.pages ≡ length self.old.pages }
+        ensures spends { Spends 0 self.old self.new }
+    {
+        match self.find(at, width.bytes()) {
+            Some(number) => self.pages[number].write_marked(at, word, width),
+            None => false,
+        }
     }
 
     /// The numbers of the pages that are marked, in rising order.

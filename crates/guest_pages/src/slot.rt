@@ -96,7 +96,7 @@ impl Slot {
     }
 
     /// The word of four bytes at an offset of a page that is made, the lowest byte first.
-    #[inline]
+    #[inline(always)]
     pub fn word_at(&self, offset: usize) -> u32
         requires made { self.now.made ≡ true }
         requires inside { offset ≤ 4092 }
@@ -109,7 +109,7 @@ impl Slot {
     }
 
     /// The word of this width at an address, the lowest byte first.
-    #[inline]
+    #[inline(always)]
     pub fn read_word(&self, at: GuestAddr, width: Width) -> u64
         requires { is_within self.now.number 4096 at (width_bytes width) ≡ true }
         ensures { bytes_of (width_bytes width) result ≡ page_read self.now at (width_bytes width) }
@@ -142,7 +142,7 @@ impl Slot {
     }
 
     /// Makes the page, of a blank if it isn't made.
-    #[inline]
+    #[inline(always)]
     pub fn make(&mut self, spare: &mut Vec<Blank>)
         requires { CanMake self.old (length spare.old.items) }
         ensures page { self.new ≡ page_made self.old }
@@ -154,7 +154,7 @@ impl Slot {
     }
 
     /// Writes the low bytes of a word, the lowest first, and marks the page.
-    #[inline]
+    #[inline(always)]
     pub fn write_word(
         &mut self,
         spare: &mut Vec<Blank>,
@@ -172,6 +172,23 @@ impl Slot {
         match &mut self.state {
             State::Made(page) => page.write_word(writer, at, word, width),
             State::Unmade(_) => unreachable!(),
+        }
+    }
+
+    /// The same where the page is made and marked, and no hart has anything reserved in it, so that only bytes change. Answers
+    /// whether it is written; else nothing is changed.
+    #[inline(always)]
+    pub fn write_marked(&mut self, at: GuestAddr, word: u64, width: Width) -> bool
+        requires { is_within self.old.number 4096 at (width_bytes width) ≡ true }
+        ensures written { result ≡ true → (writer : ActorId) →
+            self.new ≡ page_written self.old writer at (bytes_of (width_bytes width) word) }
+        ensures marked { result ≡ true → self.old.marked ≡ true }
+        ensures made { result ≡ true → self.old.made ≡ true }
+        ensures left { result ≡ false → self.new ≡ self.old }
+    {
+        match &mut self.state {
+            State::Made(page) => page.write_marked(at, word, width),
+            State::Unmade(_) => false,
         }
     }
 

@@ -7,6 +7,7 @@ ghost use Rattle.rv_rows.specs.Loads.{width_bytes};
 use le_fields::{put16, put32, put64};
 use rv_rows::Width;
 
+#[inline(always)]
 fn half_at(bytes: &[u8], offset: usize) -> u16
     requires { offset + 2 ≤ length bytes.now }
     ensures { bytes_of 2 result ≡ take 2 (drop offset bytes.now) }
@@ -17,7 +18,7 @@ fn half_at(bytes: &[u8], offset: usize) -> u16
 }
 
 /// The word of four bytes at an offset, the lowest byte first.
-#[inline]
+#[inline(always)]
 pub fn single_at(bytes: &[u8], offset: usize) -> u32
     requires { offset + 4 ≤ length bytes.now }
     ensures { bytes_of 4 result ≡ take 4 (drop offset bytes.now) }
@@ -27,6 +28,7 @@ pub fn single_at(bytes: &[u8], offset: usize) -> u32
     u32::from_le_bytes(word)
 }
 
+#[inline(always)]
 fn double_at(bytes: &[u8], offset: usize) -> u64
     requires { offset + 8 ≤ length bytes.now }
     ensures { bytes_of 8 result ≡ take 8 (drop offset bytes.now) }
@@ -37,7 +39,7 @@ fn double_at(bytes: &[u8], offset: usize) -> u64
 }
 
 /// The word of this width at an offset, the lowest byte first.
-#[inline]
+#[inline(always)]
 pub fn word_in(bytes: &[u8], offset: usize, width: Width) -> u64
     requires { offset + width_bytes width ≤ length bytes.now }
     ensures { bytes_of (width_bytes width) result ≡ take (width_bytes width) (drop offset bytes.now) }
@@ -51,7 +53,7 @@ pub fn word_in(bytes: &[u8], offset: usize, width: Width) -> u64
 }
 
 /// The low bytes of a word come in the place of as many at an offset, the lowest first.
-#[inline]
+#[inline(always)]
 pub fn put_word(bytes: &mut [u8], offset: usize, word: u64, width: Width)
     requires { offset + width_bytes width ≤ length bytes.old }
     ensures { bytes.new ≡ put_at bytes.old offset (bytes_of (width_bytes width) word) }

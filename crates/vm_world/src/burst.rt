@@ -13,7 +13,7 @@ ghost use Rattle.vm_world.specs.Bursts.{Bursts, EndsSo, HaveWord, Loads, Stores,
 mod by_operation;
 
 use by_operation::go_on_decoded;
-use decoded_words::{DecodedWords, Operation};
+use decoded_words::DecodedWords;
 use guest_memory::RAM_START;
 use guest_pages::{CodePage, PageSet};
 use hart_rv64::Hart;
@@ -61,10 +61,23 @@ fn store_as(pages: &mut PageSet, number: u8, width: Width, at: u64, value: u64) 
     pages.write_word(ActorId::Hart(number), at, value, width)
 }
 
+// The same where the page was written before and no hart has anything reserved in it.
+#[inline(always)]
+fn store_marked(pages: &mut PageSet, width: Width, at: u64, value: u64) -> bool
+    ensures made { result ≡ true → (actor : Actor) → Stores pages.old.pages actor width at value pages.new.pages }
+    ensures left { result ≡ false → pages.new ≡ pages.old }
+    ensures spends { Spends 0 pages.old pages.new }
+{
+    if at % width.bytes() as u64 != 0 || at < RAM_START {
+        return false;
+    }
+    pages.write_marked(at, value, width)
+}
+
 // Makes the instruction whose word was read at this pc, with its load or store, where RAM has that. `None` where it is any
 // other, and then nothing is changed.
 #[tactic(auto, using(guest_pages::proofs::Making::no_spends))]
-#[inline(always)]
+#[inline]
 fn go_on(pages: &mut PageSet, regs: &mut Regs, number: u8, word: u32, pc: u64) -> Option<Ended>
     requires ram { ram_start ≤ pc }
     requires read { HaveWord pages.old.pages pc word }
@@ -98,9 +111,31 @@ fn go_on(pages: &mut PageSet, regs: &mut Regs, number: u8, word: u32, pc: u64) -
     }
 }
 
-// The same, by what the word is decoded as where that is kept. Else it is kept from now on.
+// The same where the word is kept decoded and frequent. `None` where it isn't, and then nothing is changed.
 #[inline(always)]
-fn step(
+fn frequent(
+    pages: &mut PageSet,
+    regs: &mut Regs,
+    words: &DecodedWords,
+    number: u8,
+    word: u32,
+    pc: u64,
+) -> Option<Ended>
+    requires ram { ram_start ≤ pc }
+    requires read { HaveWord pages.old.pages pc word }
+    requires room { HasRoom 1 pages.old }
+    ensures goes { IfSome result (λ ended. EndsSo pages.old.pages pc regs.old (Actor.Hart number) ended pages.new.pages regs.new) }
+    ensures kept { regs.new ≡ record regs.old { x = regs.new.x } }
+    ensures none { result ≡ None → (pages.new ≡ pages.old) × (regs.new ≡ regs.old) }
+    ensures count { length pages.new.pages ≡ length pages.old.pages }
+    ensures spends { Spends 1 pages.old pages.new }
+{
+    go_on_decoded(pages, regs, number, words.find(pc, word)?, pc)
+}
+
+// The same of any word, which is kept decoded from now on.
+#[inline(never)]
+fn rare(
     pages: &mut PageSet,
     regs: &mut Regs,
     words: &mut DecodedWords,
@@ -117,13 +152,8 @@ fn step(
     ensures count { length pages.new.pages ≡ length pages.old.pages }
     ensures spends { Spends 1 pages.old pages.new }
 {
-    match words.find(pc, word) {
-        Some(it) => {
-            if !matches!(it.operation, Operation::Rare) {
-                return go_on_decoded(pages, regs, number, it, pc);
-            }
-        }
-        None => words.keep(pc, word),
+    if words.find(pc, word).is_none() {
+        words.keep(pc, word);
     }
     go_on(pages, regs, number, word, pc)
 }
@@ -188,8 +218,12 @@ fn run_in_ram(
         let Some(word) = fetch(pages, &mut code, pc) else {
             break;
         };
-        let Some(ended) = step(pages, regs, words, number, word, pc) else {
-            break;
+        let ended = match frequent(pages, regs, words, number, word, pc) {
+            Some(ended) => ended,
+            None => match rare(pages, regs, words, number, word, pc) {
+                Some(ended) => ended,
+                None => break,
+            },
         };
         done += 1;
         match ended {

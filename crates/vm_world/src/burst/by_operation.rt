@@ -8,7 +8,7 @@ ghost use Rattle.rv_rows.specs.declared.instr.Instr.TheVariants as instr;
 ghost use Rattle.vm_types.specs.declared.ids.ActorId.{ActorId as Actor};
 ghost use Rattle.vm_world.specs.Bursts.{EndsSo, HaveWord};
 
-use super::{Ended, load_as, store_as};
+use super::{Ended, load_as, store_marked};
 use decoded_words::{Decoded, Operation, do_decoded, put_into_rd, value_of_rs1};
 use guest_pages::PageSet;
 use rv_rows::{LoadKind, Width};
@@ -60,7 +60,7 @@ fn store_decoded(
     ensures count { length pages.new.pages ≡ length pages.old.pages }
 {
     let at = value_of_rs1(it, regs).wrapping_add(it.value);
-    if store_as(pages, number, width, at, regs.get(it.other)) {
+    if store_marked(pages, width, at, regs.get(it.other)) {
         Some(Ended::Accessed(pc.wrapping_add(4)))
     } else {
         None
