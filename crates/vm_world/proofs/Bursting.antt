@@ -1,5 +1,5 @@
 -- A hart's instructions one after another, made by a loop that holds the pc and the count down apart.
-use Rattle.std.proofs.Common.{◌≡◌, ℕ, ◌+◌, ◌-◌, ◌<◌, ◌≤◌, ◌%◌, ◌^◌, ◌++◌, nat_le, nat_lt, Bool, true, false, if◌then◌else◌, List, [], ◌∷◌, Some, slice_get, slice_set, refl, sym, ap, subst, ◌∙◌, arith, inl, inr}
+use Rattle.std.proofs.Common.{◌≡◌, ℕ, ◌+◌, ◌-◌, ◌<◌, ◌≤◌, ◌%◌, ◌^◌, ◌++◌, nat_le, nat_lt, Bool, true, false, if◌then◌else◌, List, [], ◌∷◌, Some, length, slice_get, slice_set, refl, sym, ap, subst, ◌∙◌, arith, inl, inr}
 use Rattle.std.proofs.lemmas.Bool.{leb-true, le-leb, ltb-true, false_from_ne_true}
 use Rattle.vm_types.specs.Fits.{fits}
 use Rattle.vm_types.specs.declared.ids.ActorId.{ActorId}
@@ -27,6 +27,7 @@ use Rattle.hart_rv64.specs.Fetching.{IsFetching, fetch_reply}
 use Rattle.hart_rv64.proofs.Fetching.{access_ended, access_wanted, plain_next}
 use Rattle.board_table.specs.Board.{Board}
 use Rattle.port_table.specs.declared.state.PortState.{PortState}
+use Rattle.guest_pages.specs.Made.{PagesValue, Spends}
 use Rattle.guest_pages.specs.Pages.{PageValue}
 use Rattle.rv_doing.specs.Plain.{LeadsTo, placed}
 use Rattle.rv_supervisor.specs.declared.regs.Regs.{Regs}
@@ -37,7 +38,7 @@ use Rattle.hart_trace.specs.States.{Hart, fresh, hart_next}
 use Rattle.timer_trace.specs.declared.timer.Timer.{Timer}
 use Rattle.guest_devices.specs.declared.device.Device.{Device}
 use Rattle.vm_world.specs.Answering.{Advances, Goes}
-use Rattle.vm_world.specs.Bursts.{Bursts, GoesOn, Loads, Stores, accesses_in, counted, next_after, total}
+use Rattle.vm_world.specs.Bursts.{Bursts, EndsSo, GoesOn, Loads, Stores, accesses_in, counted, next_after, total}
 use Rattle.vm_world.specs.declared.burst.Ended.{Ended}
 use Rattle.vm_world.specs.Worlds.{world_with}
 use Rattle.vm_world.proofs.Events.{HasRun}
@@ -142,6 +143,24 @@ counted_placed : (made pc : ℕ) (r : Regs) → made < r.count → r.turn ≡ Tu
 counted_placed made pc r more turn =
     left_of (nat_le r.count made) made pc r (over r.count made more)
     ∙ ap (λ (t : TurnType.Turn). placed pc (r.count - made) t r) turn
+
+-- what an instruction made at this pc leaves
+pub record Makes (before : PagesValue) (pc : ℕ) (r : Regs) (k : ℕ) (ended : Ended) (after : PagesValue) (s : Regs) : Type 0 where
+  pub goes : EndsSo before.pages pc r (ActorId.Hart k) ended after.pages s
+  pub kept : s ≡ record r { x = s.x }
+  pub count : length after.pages ≡ length before.pages
+  pub spends : Spends 1 before after
+
+pub makes_also : (before after later : PagesValue) (pc : ℕ) (r s t : Regs) (k : ℕ) (ended other : Ended) → other ≡ ended → later ≡ after → t ≡ s
+    → Makes before pc r k ended after s → Makes before pc r k other later t
+makes_also before after later pc r s t k ended other is pages regs makes =
+    subst (λ (e : Ended). Makes before pc r k e later t) (sym is)
+    (subst (λ (p : PagesValue). Makes before pc r k ended p t) (sym pages) (subst (Makes before pc r k ended after) (sym regs) makes))
+
+pub makes_from : (before mid after : PagesValue) (pc : ℕ) (r q s : Regs) (k : ℕ) (ended : Ended) → mid ≡ before → q ≡ r
+    → Makes mid pc q k ended after s → Makes before pc r k ended after s
+makes_from before mid after pc r q s k ended pages regs makes =
+    subst (λ (p : PagesValue). Makes p pc r k ended after s) pages (subst (λ (x : Regs). Makes mid pc x k ended after s) regs makes)
 
 -- one instruction more, which leaves all but the registers' values
 pub burst_goes : (pages mid later : List PageValue) (first : Hart) (actor : ActorId) (done accesses pc : ℕ) (given ended : Ended) (r s : Regs)

@@ -1,6 +1,5 @@
 -- An instruction of a decoded word, in RAM.
-use Rattle.std.proofs.Common.{◌≡◌, ℕ, ◌+◌, ◌%◌, ◌^◌, ◌<◌, ◌≤◌, List, Option, Some, None, sym, subst}
-use Rattle.std.specs.Prelude.{IfSome}
+use Rattle.std.proofs.Common.{◌≡◌, ℕ, ◌+◌, ◌%◌, ◌^◌, ◌<◌, ◌≤◌, List, Some, sym, subst}
 use Rattle.vm_types.specs.declared.ids.ActorId.{ActorId}
 use Rattle.guest_memory.specs.Ram.{ram_start}
 use Rattle.guest_pages.specs.Pages.{PageValue}
@@ -19,7 +18,6 @@ use Rattle.decoded_words.specs.declared.decoding.Decoded.{Decoded}
 use Rattle.decoded_words.proofs.Leading.{load_asks, store_asks}
 use Rattle.vm_world.specs.Answering.{Goes}
 use Rattle.vm_world.specs.Bursts.{EndsSo, HaveWord, Loads, Stores}
-use Rattle.vm_world.specs.declared.burst.Ended.{Ended}
 use Rattle.vm_world.specs.declared.burst.Ended.TheVariants.{Accessed, Went}
 use Rattle.vm_world.proofs.Bursting.{load_made, plain_goes, store_made}
 
@@ -49,8 +47,3 @@ module _ (pages : List PageValue) (it : Decoded) (pc : ℕ) (r : Regs) (small : 
 
   pub plain_ends_so : (k next : ℕ) (s : Regs) → LeadsTo it.word pc next r s → EndsSo pages pc r (ActorId.Hart k) (Went next) pages s
   plain_ends_so k next s leads = λ count board ports. plain_goes pages board ports k pc count it.word r small high read next s leads
-
--- what is said of every hart is said of this one
-pub some_at : (P : ℕ → Ended → Type 0) (k : ℕ) (ended : Option Ended) → IfSome ended (λ e. (n : ℕ) → P n e) → IfSome ended (P k)
-some_at P k None each = tt
-some_at P k (Some e) each = each k

@@ -1,6 +1,6 @@
 // Instructions of one hart in RAM, one after another: with the pc and a count of them held apart from the registers, and with
 // the page that they are in.
-ghost use Rattle.std.specs.Prelude.{◌≡◌, ◌≤◌, ◌<◌, ◌+◌, ◌*◌, ◌^◌, false, true, None, Some, IfSome, length};
+ghost use Rattle.std.specs.Prelude.{◌≡◌, ◌≤◌, ◌<◌, ◌+◌, ◌*◌, ◌^◌, ℕ, false, true, None, Some, IfSome, length};
 ghost use Rattle.guest_memory.specs.Ram.{ram_start};
 ghost use Rattle.guest_pages.specs.Code.{IsCode};
 ghost use Rattle.guest_pages.specs.Made.{HasRoom, Spends};
@@ -66,6 +66,7 @@ fn store_as(pages: &mut PageSet, number: u8, width: Width, at: u64, value: u64) 
 fn store_marked(pages: &mut PageSet, width: Width, at: u64, value: u64) -> bool
     ensures made { result ≡ true → (actor : Actor) → Stores pages.old.pages actor width at value pages.new.pages }
     ensures left { result ≡ false → pages.new ≡ pages.old }
+    ensures count { length pages.new.pages ≡ length pages.old.pages }
     ensures spends { Spends 0 pages.old pages.new }
 {
     if at % width.bytes() as u64 != 0 || at < RAM_START {
@@ -111,26 +112,24 @@ fn go_on(pages: &mut PageSet, regs: &mut Regs, number: u8, word: u32, pc: u64) -
     }
 }
 
-// The same where the word is kept decoded and frequent. `None` where it isn't, and then nothing is changed.
+// The same where the word is kept decoded and frequent, whatever the hart's number is. `None` where it isn't, and then nothing is changed.
 #[inline(always)]
 fn frequent(
     pages: &mut PageSet,
     regs: &mut Regs,
     words: &DecodedWords,
-    number: u8,
     word: u32,
     pc: u64,
 ) -> Option<Ended>
     requires ram { ram_start ≤ pc }
     requires read { HaveWord pages.old.pages pc word }
-    requires room { HasRoom 1 pages.old }
-    ensures goes { IfSome result (λ ended. EndsSo pages.old.pages pc regs.old (Actor.Hart number) ended pages.new.pages regs.new) }
+    ensures goes { IfSome result (λ ended. (k : ℕ) → EndsSo pages.old.pages pc regs.old (Actor.Hart k) ended pages.new.pages regs.new) }
     ensures kept { regs.new ≡ record regs.old { x = regs.new.x } }
     ensures none { result ≡ None → (pages.new ≡ pages.old) × (regs.new ≡ regs.old) }
     ensures count { length pages.new.pages ≡ length pages.old.pages }
-    ensures spends { Spends 1 pages.old pages.new }
+    ensures spends { Spends 0 pages.old pages.new }
 {
-    go_on_decoded(pages, regs, number, words.find(pc, word)?, pc)
+    go_on_decoded(pages, regs, words.find(pc, word)?, pc)
 }
 
 // The same of any word, which is kept decoded from now on.
@@ -218,7 +217,7 @@ fn run_in_ram(
         let Some(word) = fetch(pages, &mut code, pc) else {
             break;
         };
-        let ended = match frequent(pages, regs, words, number, word, pc) {
+        let ended = match frequent(pages, regs, words, word, pc) {
             Some(ended) => ended,
             None => match rare(pages, regs, words, number, word, pc) {
                 Some(ended) => ended,

@@ -2,7 +2,7 @@
 ghost use Rattle.std.specs.Prelude.{◌≡◌, ◌≤◌, ◌<◌, ◌^◌, ℕ, None, Some, IfSome, length};
 ghost use Rattle.decoded_words.specs.Decoded.{IsDecoded};
 ghost use Rattle.guest_memory.specs.Ram.{ram_start};
-ghost use Rattle.guest_pages.specs.Made.{HasRoom, Spends};
+ghost use Rattle.guest_pages.specs.Made.{Spends};
 ghost use Rattle.rv_rows.specs.Table.{instr_of};
 ghost use Rattle.rv_rows.specs.declared.instr.Instr.TheVariants as instr;
 ghost use Rattle.vm_types.specs.declared.ids.ActorId.{ActorId as Actor};
@@ -38,12 +38,11 @@ fn load_decoded(
     Some(Ended::Accessed(pc.wrapping_add(4)))
 }
 
-// A store of this width.
+// A store of this width, where its page was written before and no hart has anything reserved in it.
 #[inline(always)]
 fn store_decoded(
     pages: &mut PageSet,
     regs: &Regs,
-    number: u8,
     it: &Decoded,
     width: Width,
     pc: u64,
@@ -53,10 +52,9 @@ fn store_decoded(
     requires word { it.now.word < 2 ^ 32 }
     requires ram { ram_start ≤ pc }
     requires read { HaveWord pages.old.pages pc it.now.word }
-    requires room { HasRoom 1 pages.old }
-    ensures goes { IfSome result (λ ended. EndsSo pages.old.pages pc regs.now (Actor.Hart number) ended pages.new.pages regs.now) }
+    ensures goes { IfSome result (λ ended. (k : ℕ) → EndsSo pages.old.pages pc regs.now (Actor.Hart k) ended pages.new.pages regs.now) }
     ensures none { result ≡ None → pages.new ≡ pages.old }
-    ensures spends { Spends 1 pages.old pages.new }
+    ensures spends { Spends 0 pages.old pages.new }
     ensures count { length pages.new.pages ≡ length pages.old.pages }
 {
     let at = value_of_rs1(it, regs).wrapping_add(it.value);
@@ -67,14 +65,13 @@ fn store_decoded(
     }
 }
 
-/// Makes the instruction of this decoded word, which was read at this pc, with its load or store, where RAM has that. `None`
-/// where it is any other, and then nothing is changed.
+/// Makes the instruction of this decoded word, which was read at this pc, with its load, where RAM has that, or its store, where its page
+/// was written before and no hart has anything reserved in it. `None` where it is any other, and then nothing is changed.
 #[tactic(auto, using(guest_pages::proofs::Making::no_spends))]
 #[inline(always)]
 pub(super) fn go_on_decoded(
     pages: &mut PageSet,
     regs: &mut Regs,
-    number: u8,
     it: &Decoded,
     pc: u64,
 ) -> Option<Ended>
@@ -82,11 +79,10 @@ pub(super) fn go_on_decoded(
     requires word { it.now.word < 2 ^ 32 }
     requires ram { ram_start ≤ pc }
     requires read { HaveWord pages.old.pages pc it.now.word }
-    requires room { HasRoom 1 pages.old }
-    ensures goes { IfSome result (λ ended. EndsSo pages.old.pages pc regs.old (Actor.Hart number) ended pages.new.pages regs.new) }
+    ensures goes { IfSome result (λ ended. (k : ℕ) → EndsSo pages.old.pages pc regs.old (Actor.Hart k) ended pages.new.pages regs.new) }
     ensures kept { regs.new ≡ record regs.old { x = regs.new.x } }
     ensures none { result ≡ None → (pages.new ≡ pages.old) × (regs.new ≡ regs.old) }
-    ensures spends { Spends 1 pages.old pages.new }
+    ensures spends { Spends 0 pages.old pages.new }
     ensures count { length pages.new.pages ≡ length pages.old.pages }
 {
     match it.operation {
@@ -97,10 +93,10 @@ pub(super) fn go_on_decoded(
         Operation::LoadByteUnsigned => load_decoded(pages, regs, it, LoadKind::ByteUnsigned, pc),
         Operation::LoadHalfUnsigned => load_decoded(pages, regs, it, LoadKind::HalfUnsigned, pc),
         Operation::LoadWordUnsigned => load_decoded(pages, regs, it, LoadKind::WordUnsigned, pc),
-        Operation::StoreByte => store_decoded(pages, regs, number, it, Width::Byte, pc),
-        Operation::StoreHalf => store_decoded(pages, regs, number, it, Width::Half, pc),
-        Operation::StoreWord => store_decoded(pages, regs, number, it, Width::Word, pc),
-        Operation::StoreDouble => store_decoded(pages, regs, number, it, Width::Double, pc),
+        Operation::StoreByte => store_decoded(pages, regs, it, Width::Byte, pc),
+        Operation::StoreHalf => store_decoded(pages, regs, it, Width::Half, pc),
+        Operation::StoreWord => store_decoded(pages, regs, it, Width::Word, pc),
+        Operation::StoreDouble => store_decoded(pages, regs, it, Width::Double, pc),
         _ => Some(Ended::Went(do_decoded(it, pc, regs)?)),
     }
 }
