@@ -211,9 +211,9 @@ fn run_in_ram(
     let Some(mut code) = pages.code_page(pc) else {
         return 0;
     };
-    let mut done = 0;
+    let mut left = most;
     let mut accesses = 0;
-    while done < most {
+    while left > 0 {
         let Some(word) = fetch(pages, &mut code, pc) else {
             break;
         };
@@ -224,7 +224,7 @@ fn run_in_ram(
                 None => break,
             },
         };
-        done += 1;
+        left -= 1;
         match ended {
             Ended::Went(next) => pc = next,
             Ended::Accessed(next) => {
@@ -233,8 +233,8 @@ fn run_in_ram(
             }
         }
     }
-    settle(regs, pc, done);
-    done + accesses
+    settle(regs, pc, most - left);
+    most - left + accesses
 }
 
 /// Instructions of the hart of this number in RAM, one after another, up to its next look and as long as the next one is in RAM
