@@ -1,6 +1,6 @@
 -- One page of guest memory, and all of them as the one memory of the definition.
-use Rattle.std.specs.Prelude.{ℕ, zero, suc, replicate, ◌+◌, ◌-◌, ◌*◌, nat_le, Bool, true, false, ◌&&◌, if◌then◌else◌, List, [], ◌∷◌, length, map, take, drop, Option, Some, None, slice_set}
-use Rattle.std.specs.List.{flat_map}
+use Rattle.std.specs.Prelude.{ℕ, zero, suc, replicate, ◌+◌, ◌-◌, ◌*◌, ◌==◌, nat_le, Bool, true, false, ◌&&◌, if◌then◌else◌, List, [], ◌∷◌, length, map, take, drop, Option, Some, None, is_some, slice_set}
+use Rattle.std.specs.List.{count_by, flat_map}
 use Rattle.vm_types.specs.declared.ids.ActorId.{ActorId}
 use Rattle.vm_types.specs.declared.op.Op.{Op}
 use Rattle.vm_types.specs.declared.op.Op.TheVariants.{Read, Write, Amo, Lr, Sc}
@@ -24,6 +24,10 @@ pub record PageValue : Type 0 where
 -- the guest address of a page
 abbrev pub page_start : ℕ → ℕ
 page_start i = ram_start + page_size * i
+
+-- marked, and no hart has anything reserved in it: a write changes its bytes alone
+abbrev pub is_marked_unreserved : PageValue → Bool
+is_marked_unreserved p = p.marked && count_by is_some p.reserved == 0
 
 -- these bytes, one at least, are in the page of this number and size
 abbrev pub is_within : ℕ → ℕ → ℕ → ℕ → Bool

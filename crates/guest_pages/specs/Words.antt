@@ -1,5 +1,5 @@
 -- Accesses of words: what the page that has their bytes answers, and the pages that they leave.
-use Rattle.std.specs.Prelude.{ℕ, Bool, true, false, List, length, Option, Some, None, slice_set, slice_index_or}
+use Rattle.std.specs.Prelude.{ℕ, Bool, true, false, List, length, map, Option, Some, None, slice_set, slice_index_or}
 use Rattle.vm_types.specs.declared.ids.ActorId.{ActorId}
 use Rattle.vm_types.specs.declared.ids.PlaceId.{PlaceId}
 use Rattle.vm_types.specs.declared.op.Op.{Op}
@@ -10,7 +10,7 @@ use Rattle.rv_rows.specs.declared.memory.Width.{Width}
 use Rattle.rv_rows.specs.Loads.{width_bytes}
 use Rattle.guest_memory.specs.Memory.{Memory, touch}
 use Rattle.guest_memory.specs.Route.{access_place}
-use Rattle.guest_pages.specs.Pages.{PageValue, flat_of, page_touch}
+use Rattle.guest_pages.specs.Pages.{PageValue, flat_of, is_marked_unreserved, page_touch}
 
 -- reads and writes of a word of some width, the lowest byte first
 abbrev pub read_of : Width → ℕ → Op
@@ -39,6 +39,11 @@ at_place place m actor op = (AccessFault, m)
 
 abbrev pub served : List PageValue → ActorId → Op → Reply × Memory
 served pages actor op = at_place (place_among pages op) (flat_of pages) actor op
+
+-- the page at this place is marked, and no hart has anything reserved in it
+abbrev pub is_marked_unreserved_at : PlaceId → List PageValue → Bool
+is_marked_unreserved_at (PlaceId.Page i) pages = slice_index_or (map is_marked_unreserved pages) i false
+is_marked_unreserved_at place pages = false
 
 -- the pages that it leaves, which are the page's act on the page that has its bytes
 abbrev pub pages_at : PlaceId → PageValue → List PageValue → ActorId → Op → List PageValue

@@ -6,7 +6,7 @@ ghost use Rattle.guest_memory.specs.Reserved.{slots_after};
 ghost use Rattle.guest_memory.specs.Words.{width_of};
 ghost use Rattle.le_fields.specs.Fields.{bytes_of};
 ghost use Rattle.rv_rows.specs.Loads.{width_bytes};
-ghost use Rattle.guest_pages.specs.Pages.{PageValue, filled, is_within, made_page, page_holding, page_read, page_reserving, page_start, page_touch, page_word, page_written, patched, unmarked};
+ghost use Rattle.guest_pages.specs.Pages.{PageValue, filled, is_marked_unreserved, is_within, made_page, page_holding, page_read, page_reserving, page_start, page_touch, page_word, page_written, patched, unmarked};
 
 use crate::word_bytes::{put_word, single_at, word_in};
 use guest_memory::{
@@ -315,6 +315,7 @@ impl Page {
     #[inline(always)]
     pub fn write_marked(&mut self, at: GuestAddr, word: u64, width: Width) -> bool
         requires { is_within self.old.number 4096 at (width_bytes width) ≡ true }
+        ensures answer { result ≡ is_marked_unreserved self.old }
         ensures written { result ≡ true → (writer : ActorId) →
             self.new ≡ page_written self.old writer at (bytes_of (width_bytes width) word) }
         ensures marked { result ≡ true → self.old.marked ≡ true }

@@ -8,7 +8,7 @@ ghost use Rattle.guest_pages.specs.Pages.{PageValue, cleared, empty_memory, flat
 ghost use Rattle.guest_pages.specs.Pages.{new_pages, page_holding, page_touch};
 ghost use Rattle.guest_pages.specs.Made.{Spends, is_made, is_ready};
 ghost use Rattle.guest_pages.specs.Marks.{marked_from, marks_after};
-ghost use Rattle.guest_pages.specs.Words.{pages_at, place_among, read_of, read_reply, served, write_of, write_reply};
+ghost use Rattle.guest_pages.specs.Words.{is_marked_unreserved_at, pages_at, place_among, read_of, read_reply, served, write_of, write_reply};
 
 mod blocks;
 mod code;
@@ -190,6 +190,7 @@ impl PageSet {
     /// written; else nothing is changed. It takes no memory.
     #[inline(always)]
     pub fn write_marked(&mut self, at: GuestAddr, word: u64, width: Width) -> bool
+        ensures answer { result ≡ is_marked_unreserved_at (place_among self.old.pages (write_of width at word)) self.old.pages }
         ensures reply { result ≡ true → (writer : ActorId) → write_reply true ≡ (served self.old.pages writer (write_of width at word)).0 }
         ensures memory { result ≡ true → (writer : ActorId) → flat_of self.new.pages ≡ (served self.old.pages writer (write_of width at word)).1 }
         ensures marks { result ≡ true → marks_of self.new.pages ≡ marks_after (place_among self.old.pages (write_of width at word))

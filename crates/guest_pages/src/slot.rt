@@ -4,7 +4,7 @@ ghost use Rattle.le_fields.specs.Fields.{bytes_of};
 ghost use Rattle.rv_rows.specs.Loads.{width_bytes};
 ghost use Rattle.guest_pages.specs.Made.{CanMake, Takes, are_zeros};
 ghost use Rattle.guest_pages.specs.Marks.{leaves};
-ghost use Rattle.guest_pages.specs.Pages.{is_within, made_page, new_page, page_holding, page_made, page_read, page_touch, page_written, patched, unmarked};
+ghost use Rattle.guest_pages.specs.Pages.{is_marked_unreserved, is_within, made_page, new_page, page_holding, page_made, page_read, page_touch, page_written, patched, unmarked};
 
 use crate::blank::Blank;
 use crate::page::Page;
@@ -180,6 +180,7 @@ impl Slot {
     #[inline(always)]
     pub fn write_marked(&mut self, at: GuestAddr, word: u64, width: Width) -> bool
         requires { is_within self.old.number 4096 at (width_bytes width) ≡ true }
+        ensures answer { result ≡ is_marked_unreserved self.old }
         ensures written { result ≡ true → (writer : ActorId) →
             self.new ≡ page_written self.old writer at (bytes_of (width_bytes width) word) }
         ensures marked { result ≡ true → self.old.marked ≡ true }

@@ -1,15 +1,17 @@
-use Rattle.std.proofs.Common.{ℕ, ◌≡◌, ◌∙◌, refl, sym, ap, subst, length, set, arith, Bool, true, false, List}
+use Rattle.std.proofs.Common.{ℕ, ◌≡◌, ◌∙◌, refl, sym, ap, subst, length, map, set, slice_index_or, arith, Bool, true, false, List}
 use Rattle.std.proofs.lemmas.List.{set-get_or}
 use Rattle.le_fields.specs.Fields.{bytes_of}
+use Rattle.le_fields.proofs.Values.{long as whole}
 use Rattle.rv_rows.specs.Loads.{width_bytes}
 use Rattle.vm_types.specs.declared.ids.ActorId.{ActorId}
+use Rattle.vm_types.specs.declared.ids.PlaceId.{PlaceId}
 use Rattle.guest_memory.specs.Route.{page_of}
 use Rattle.guest_pages.specs.Flat.{IsSet}
 use Rattle.guest_pages.specs.Made.{Spends}
-use Rattle.guest_pages.specs.Pages.{PageValue, flat_of}
-use Rattle.guest_pages.specs.Words.{read_of}
+use Rattle.guest_pages.specs.Pages.{PageValue, flat_of, is_marked_unreserved}
+use Rattle.guest_pages.specs.Words.{is_marked_unreserved_at, read_of}
 use Rattle.guest_pages.proofs.Blanks.{takes_none}
-use Rattle.guest_pages.proofs.Blocks.{is_marked, summed_kept}
+use Rattle.guest_pages.proofs.Blocks.{is_marked, mark_here, summed_kept}
 use Rattle.guest_pages.proofs.Reserved.{holds, written_holds}
 use Rattle.guest_pages.proofs.Sets.{number_below}
 use Rattle.guest_pages.proofs.Serving.{is_in_page, word_marks, word_memory, word_stays}
@@ -71,3 +73,14 @@ returns-in-Some-clause-spends c = by_test c.write_marked.result refl
         (sym (ap (λ (p : PageValue). set c.self.inside.pages.items c.in-Some.number p) (c.write_marked.ensures.left is ∙ c.index_mut.ensures.value)
         ∙ set-get_or c.self.inside.pages.items c.in-Some.number c.index_mut.result.now))
         (subst (Spends 0 c.args.self.now) (sym c.self.view_is) (no_spends 0 c.args.self.now))
+
+pub returns-in-Some-clause-answer : goal.returns-in-Some-clause-answer
+returns-in-Some-clause-answer c =
+    let found = ap (λ (len : ℕ). page_of (length (flat_of c.args.self.now.pages).bytes) c.args.at len) (sym c.bytes.ensures.is) ∙ c.in-Some.ensures in
+    let below = number_below c.args.self.now.pages c.self.inside.pages.items c.in-Some.number (read_of c.args.width c.args.at) (ap the_pages (sym c.self.view_is)) c.self.invariant.are found in
+    let long = ap count_of c.self.view_is in
+    c.write_marked.ensures.answer
+    ∙ sym (mark_here is_marked_unreserved c.self.inside.pages.items c.in-Some.number c.index_mut.result.now (omega (arith, below, long)) c.index_mut.ensures.value)
+    ∙ ap (λ (pages : List PageValue). slice_index_or (map is_marked_unreserved pages) c.in-Some.number false) (ap the_pages c.self.view_is)
+    ∙ sym (ap (λ (place : PlaceId). is_marked_unreserved_at place c.args.self.now.pages)
+    (ap (λ (len : ℕ). page_of (length (flat_of c.args.self.now.pages).bytes) c.args.at len) (whole (width_bytes c.args.width) c.args.word) ∙ found))
