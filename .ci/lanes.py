@@ -1,10 +1,11 @@
-"""What `.ci/build` and `bench/gate/table` take of the kit's own `rt`: the file as a module, and its scheduler (`in_lanes`), which they
-call for real and on a clock of their own.
+"""What `.ci/build`, `.ci/rt` and `bench/gate/table` take of the kit's own `rt`: the file as a module, which looks at each crate once
+(`kit`), and its scheduler (`in_lanes`), which they call for real and on a clock of their own.
 
 A task is what it waits for, its work, the memory that it takes in bytes, and a call that gets what the others gave and how many
 processors it may use."""
 
 import contextlib
+import hashlib
 import importlib.machinery
 import importlib.util
 import os
@@ -25,7 +26,44 @@ def kit():
     loader = importlib.machinery.SourceFileLoader("rt_of_kit", os.path.realpath(found))
     rt = importlib.util.module_from_spec(importlib.util.spec_from_loader("rt_of_kit", loader))
     loader.exec_module(rt)
+    remember(rt)
     return rt
+
+
+def remember(rt):
+    """Has rt look at each crate once for what is below it and for its stamp. By itself it goes each way that leads down to a crate: a
+    million of them from a program of this repository. The stamp is the same; a file that has another time or size is read again."""
+    lib, read = rt.rtlib, {}
+
+    def below(crate):
+        if "all_below" not in crate.__dict__:
+            crate.all_below = [*dict.fromkeys(it for dep in crate.deps for it in [*below(dep), dep])]
+        return [*crate.all_below]
+
+    def parts(crate):
+        """What the stamp says of the crate's own files."""
+        files = [*lib.files_of(crate.folder)]
+        are = [(it, os.stat(it).st_mtime_ns, os.stat(it).st_size) for it in files]
+        if read.get(crate.folder, (None,))[0] != are:
+            texts = [repr((it.replace(crate.folder, ""), open(it, "rb").read())).encode() for it in files]
+            read[crate.folder] = are, texts
+        return read[crate.folder][1]
+
+    def stamp(crate, known=None):
+        known = {} if known is None else known
+        if crate.folder not in known:
+            total = hashlib.sha256(repr((crate.said, crate.has_c)).encode())
+            total.update(open(f"{lib.KIT}/WHAT", "rb").read())
+            for part in parts(crate):
+                total.update(part)
+            total.update(repr([stamp(dep, known) for dep in crate.deps]).encode())
+            known[crate.folder] = total.hexdigest()
+        return known[crate.folder]
+
+    lib.Crate.below = below
+    # (a kit with STAMPS keeps them itself)
+    if not hasattr(rt, "STAMPS"):
+        lib.Crate.stamp = stamp
 
 
 class Ending:
