@@ -1,9 +1,10 @@
 // Two harts that add to one word, in a hundred slices of 64 steps, each replayed step by step on another world.
 ghost use Rattle.std.specs.Prelude.{◌≡◌, All};
 
+use crate::failing::FailingObjects;
 use crate::worlds::{clock, replays, two_harts, word_at};
 use pause_gate::{FlagGate, Pass};
-use slice_runner::{Devices, NoObjects, Slice, run_slice};
+use slice_runner::{Devices, Slice, run_slice};
 use std::io;
 use std::sync::Wait;
 use std::thread::Threads;
@@ -64,7 +65,7 @@ fn run_all<R: Threads + Wait + AllocGlobal + Sync>(
             rt.alloc(),
             world,
             &mut clock,
-            &mut NoObjects,
+            &mut FailingObjects,
             Devices::Rest,
             gate,
             passes,

@@ -7,6 +7,7 @@
 
 mod acts;
 mod adding;
+mod failing;
 mod gates;
 mod locks;
 mod made;

@@ -1,9 +1,10 @@
 // Two harts that are held inside pages of their own, and then a closed gate.
 ghost use Rattle.std.specs.Prelude.{◌≡◌, All};
 
+use crate::failing::FailingObjects;
 use crate::worlds::{clock, two_harts};
 use pause_gate::{FlagGate, HoldGate, Party, Pass};
-use slice_runner::{Devices, NoObjects, Stop, run_slice};
+use slice_runner::{Devices, Stop, run_slice};
 use std::io;
 use std::sync::Wait;
 use std::thread::Threads;
@@ -60,7 +61,7 @@ fn stop_of_hart_0<R: Threads + Wait + AllocGlobal + Sync>(
         rt.alloc(),
         world,
         &mut clock(),
-        &mut NoObjects,
+        &mut FailingObjects,
         Devices::Rest,
         gate,
         passes,

@@ -1,10 +1,11 @@
 // Why the harts stop in a slice, and what comes home behind it: the mark of a page, and each port at its place.
 ghost use Rattle.std.specs.Prelude.{◌≡◌, All};
 
+use crate::failing::FailingObjects;
 use crate::gates::pass_of;
 use crate::worlds::{clock, two_drives, two_harts};
 use pause_gate::{FlagGate, Pass};
-use slice_runner::{Devices, NoObjects, Slice, Stop, run_slice};
+use slice_runner::{Devices, Slice, Stop, run_slice};
 use std::io;
 use std::sync::Wait;
 use std::thread::Threads;
@@ -77,7 +78,7 @@ fn print_devices<R: Threads + Wait + Print + AllocGlobal + Sync>(rt: &R) -> io::
         rt.alloc(),
         &mut world,
         &mut clock(),
-        &mut NoObjects,
+        &mut FailingObjects,
         Devices::Act,
         &gate,
         &mut passes,
@@ -169,7 +170,7 @@ fn slice_of<R: Threads + Wait + AllocGlobal + Sync>(
         rt.alloc(),
         world,
         &mut clock(),
-        &mut NoObjects,
+        &mut FailingObjects,
         Devices::Rest,
         gate,
         passes,

@@ -21,7 +21,7 @@ mod stop;
 mod worker;
 
 pub use devices::Devices;
-pub use objects::{DeviceObjects, NoObjects};
+pub use objects::DeviceObjects;
 pub use slice::{Slice, run_slice};
 pub use stop::{Stop, Stopped};
 pub use worker::ask_clock;

@@ -1,5 +1,5 @@
 // What devices ask in a slice.
-ghost use Rattle.std.specs.Prelude.{◌≡◌, ℕ, true, false};
+ghost use Rattle.std.specs.Prelude.{◌≡◌, ℕ, true};
 ghost use Rattle.vm_types.specs.declared.op.OutOp.{OutOp};
 ghost use Rattle.vm_types.specs.declared.reply.Reply.{Reply};
 
@@ -32,26 +32,4 @@ pub trait DeviceObjects: Drop {
         requires { calls act.now ≡ true }
         ensures fits { out_fits act.now result ≡ true }
         ensures answers { Answers device act.now result (known self.old) (known self.new) };
-}
-
-/// No object, for devices that rest.
-#[derive(Drop)]
-pub struct NoObjects;
-
-impl DeviceObjects for NoObjects {
-    ghost Known = { Unit {0} };
-
-    ghost known = { λ none. tt };
-
-    ghost calls = { λ act. false };
-
-    ghost Answers = { λ device act reply old new. Unit {0} };
-
-    fn is_call(&self, _act: &OutOp) -> bool {
-        false
-    }
-
-    fn answer(&mut self, _device: u8, _act: &OutOp) -> Reply {
-        unreachable!()
-    }
 }
