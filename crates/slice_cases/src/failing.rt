@@ -7,7 +7,6 @@ use vm_types::{OutOp, Reply};
 pub struct FailingObjects;
 
 impl DeviceObjects for FailingObjects {
-    ghost use Rattle.std.specs.Prelude.{Unit, tt};
     ghost use Rattle.vm_types.specs.Fits.{out_fits};
     ghost use Rattle.vm_types.specs.declared.reply.Reply.TheVariants.{Failed};
 
