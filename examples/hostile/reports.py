@@ -73,10 +73,14 @@ class Report:
             never = [it.split(" ", 1)[1] for it in names if not self.seen[it]]
             yield f"{what} never met: {', '.join(never) or 'none'}"
 
+    def origin(self):
+        """Which inputs of which programs these are."""
+        programs = ", ".join(f"{name} {digest[:16]}" for name, digest in sorted(self.programs.items()))
+        return f"seed {self.seed}, made by {self.inputs[:16]}; {programs}"
+
     def told_of(self):
         ranges = ", ".join(f"{begin} to {end - 1}" for begin, end in self.ranges) or "none"
-        programs = ", ".join(f"{name} {digest[:16]}" for name, digest in sorted(self.programs.items()))
-        return f"seed {self.seed}, inputs {ranges}, made by {self.inputs[:16]}; {programs}"
+        return f"inputs {ranges} of {self.origin()}"
 
 
 def merged(paths):
