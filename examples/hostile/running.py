@@ -8,6 +8,9 @@ import socket
 import struct
 
 SECONDS = 60
+PAGE, CHUNK = 4096, 1 << 18
+# Two buffers for all comparisons: a fresh one for each file would cost more than the reading.
+_BUFFERS = bytearray(CHUNK), bytearray(CHUNK)
 
 
 def become_nobody(folder):
@@ -93,11 +96,6 @@ def emptied(folder):
     for name in names:
         os.unlink(f"{folder}/{name}")
     return folder
-
-
-PAGE, CHUNK = 4096, 1 << 18
-# Two buffers for all comparisons: a fresh one for each file would cost more than the reading.
-_BUFFERS = bytearray(CHUNK), bytearray(CHUNK)
 
 
 def same_files(one, other):
