@@ -6,6 +6,8 @@ import socket
 import subprocess
 import time
 
+from running import run
+
 SECONDS = 60
 IMAGE = bytes.fromhex("970201009383130013fef301131ece00330e5e0023347e006ff05ffe")
 FILES = {"k": IMAGE, "i": b"\0", "disk": bytes(1024), "other": bytes(513)}
@@ -93,14 +95,10 @@ def replayed(program, folder, again, answers):
     """What differs between these answers and those of the trace's replay, in a folder as the server found its own. The end of a trace may be
     missing, and a client that left has no answer."""
     with open(os.path.join(folder, "trace"), "rb") as file:
-        words = [program, "replay", "--id", "hostile"]
-        try:
-            done = subprocess.run(words, stdin=file, cwd=again, capture_output=True, timeout=SECONDS)
-        except subprocess.TimeoutExpired:
-            return f"the replay of the trace didn't end within {SECONDS} seconds"
-    if done.stderr or done.returncode not in (0, 3):
-        return f"the replay of the trace ended with {done.returncode} and {done.stderr[:200]!r}"
-    told = iter([it for it in done.stdout.split(b"\n") if it.startswith(b"< ")])
+        out, status = run([program, "replay", "--id", "hostile"], file.read(), again)
+    if status not in (0, 3):
+        return f"the replay of the trace: {status if isinstance(status, str) else f'status {status}'}"
+    told = iter([it for it in out.split(b"\n") if it.startswith(b"< ")])
     for k, it in enumerate(it for each in answers[:-1] for it in each):
         if it not in told:
             return f"the replay of the trace lacks answer {k}: {it[:200]!r}"

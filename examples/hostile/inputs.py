@@ -1,5 +1,6 @@
 """The inputs of examples/hostile/fuzz: each is made from a number alone, and half of them are valid ones with one to three changes."""
 
+import hashlib
 import json
 import os
 import random
@@ -139,8 +140,16 @@ class Inputs:
 
     def __init__(self, seed):
         self.seed = seed
-        self.scripts = scripts_below("examples", "crates/script_cases/data") + scripts_of_chains()
+        found = scripts_below("examples", "crates/script_cases/data") + scripts_of_chains()
+        self.scripts = [[short(line) for line in lines] for lines in found]
         self.drives = [it for it in self.scripts if has_drive(it)]
+
+    def digest(self):
+        """Of the scripts that inputs are made from, and of the first inputs: where it is the same, so is each input."""
+        whole = hashlib.sha256(repr(self.scripts).encode())
+        for number in range(10 * len(KINDS)):
+            whole.update(repr(self.make(number)[:2]).encode())
+        return whole.hexdigest()
 
     def make(self, number):
         """The kind of an input, and its script. For the kind `files` the script is what goes on from changed files."""
@@ -156,14 +165,14 @@ class Inputs:
         return chance.choice([self.script, self.body, self.stream])(chance)
 
     def script(self, chance):
-        lines = [short(it) for it in chance.choice(self.scripts)]
+        lines = chance.choice(self.scripts)
         for _ in range(chance.randint(1, 3) if chance.random() < 0.5 else chance.randint(4, 12)):
             lines = changed_lines(chance, lines)
         return ended(chance, lines)
 
     def queue(self, chance):
         """A guest with drives whose image has other bytes: its rings and descriptors are then whatever stands there."""
-        lines = [short(it) for it in chance.choice(self.drives)]
+        lines = list(chance.choice(self.drives))
         images = [k for k, it in enumerate(lines) if it.startswith(b"file ") and len(it) > 60]
         for _ in range(chance.randint(1, 3) if chance.random() < 0.5 else chance.randint(4, 40)):
             if images:

@@ -8,6 +8,9 @@ import socket
 import struct
 
 SECONDS = 60
+PAGE, CHUNK = 4096, 1 << 18
+# Two buffers for all comparisons: a fresh one for each file would cost more than the reading.
+_BUFFERS = bytearray(CHUNK), bytearray(CHUNK)
 
 
 def become_nobody(folder):
@@ -85,22 +88,86 @@ def contents(descriptor):
 
 def emptied(folder):
     """The folder, without a file in it."""
-    if not os.path.isdir(folder):
+    try:
+        names = os.listdir(folder)
+    except FileNotFoundError:
         os.mkdir(folder)
-    for it in os.scandir(folder):
-        os.unlink(it.path)
+        return folder
+    for name in names:
+        os.unlink(f"{folder}/{name}")
     return folder
 
 
 def same_files(one, other):
     """Whether two folders have the same files."""
-    names = sorted(os.listdir(one))
-    if names != sorted(os.listdir(other)):
+    names = os.listdir(one)
+    if sorted(names) != sorted(os.listdir(other)):
         return False
-    for name in names:
-        if os.path.samefile(os.path.join(one, name), os.path.join(other, name)):
-            continue
-        with open(os.path.join(one, name), "rb") as first, open(os.path.join(other, name), "rb") as second:
-            if first.read() != second.read():
-                return False
+    return all(same_bytes(f"{one}/{name}", f"{other}/{name}") for name in names)
+
+
+def same_bytes(one, other):
+    """Whether two files have the same bytes."""
+    first, second = os.open(one, os.O_RDONLY), os.open(other, os.O_RDONLY)
+    try:
+        left, right = os.fstat(first), os.fstat(second)
+        if left.st_size != right.st_size:
+            return False
+        if os.path.samestat(left, right):
+            return True
+        if left.st_size <= CHUNK:
+            return os.read(first, CHUNK) == os.read(second, CHUNK)
+        return same_chunks(first, second, left.st_size)
+    finally:
+        os.close(first)
+        os.close(second)
+
+
+def same_chunks(first, second, size):
+    """The same of two open files of so many bytes, a chunk at a time; what is a hole in both isn't read."""
+    left, right = _BUFFERS
+    at = 0
+    while at < size:
+        at = min(next_data(first, at, size), next_data(second, at, size))
+        count = os.preadv(first, [left], at)
+        if os.preadv(second, [right], at) != count:
+            return False
+        if left != right if count == CHUNK else left[:count] != right[:count]:
+            return False
+        at += max(count, 1)
     return True
+
+
+def next_data(file, at, size):
+    """The first place from here on that isn't in a hole, or the file's size."""
+    try:
+        return os.lseek(file, at, os.SEEK_DATA)
+    except OSError:
+        return size
+
+
+class Content:
+    """What a file holds, to be copied often: its size, and its parts that aren't zeros."""
+
+    def __init__(self, path):
+        with open(path, "rb") as file:
+            whole = file.read()
+        self.size, self.parts = len(whole), []
+        for at in range(0, len(whole), PAGE):
+            page = whole[at:at + PAGE]
+            if not any(page):
+                continue
+            if self.parts and self.parts[-1][0] + len(self.parts[-1][1]) == at:
+                self.parts[-1] = self.parts[-1][0], self.parts[-1][1] + page
+            else:
+                self.parts.append((at, page))
+
+    def write(self, path):
+        """Makes the file at this path, which isn't there yet, with what the other one holds; pages of zeros are holes."""
+        file = os.open(path, os.O_WRONLY | os.O_CREAT | os.O_EXCL, 0o644)
+        try:
+            os.ftruncate(file, self.size)
+            for at, part in self.parts:
+                os.pwrite(file, part, at)
+        finally:
+            os.close(file)
