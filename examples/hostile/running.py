@@ -1,5 +1,6 @@
 """Runs a program over an input: quickly, as nobody, and with an end."""
 
+import contextlib
 import codecs
 import os
 import pwd
@@ -67,8 +68,10 @@ def run(words, given, folder, source_fails=False, full=False):
         try:
             _, ended = os.waitpid(child, 0)
         except Late:
-            os.kill(child, signal.SIGKILL)
-            os.waitpid(child, 0)
+            # (it may have ended as the time was over)
+            with contextlib.suppress(ProcessLookupError, ChildProcessError):
+                os.kill(child, signal.SIGKILL)
+                os.waitpid(child, 0)
             return b"", f"no end within {SECONDS} seconds"
         finally:
             signal.setitimer(signal.ITIMER_REAL, 0)
