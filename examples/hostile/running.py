@@ -1,7 +1,7 @@
 """Runs a program over an input: quickly, as nobody, and with an end."""
 
-import contextlib
 import codecs
+import contextlib
 import os
 import pwd
 import signal
