@@ -4,12 +4,15 @@ import codecs
 import contextlib
 import os
 import pwd
+import resource
 import signal
 import socket
 import struct
 
 SECONDS = 60
 PAGE, CHUNK = 4096, 1 << 18
+# No file is written past this: a memory file of 128 MiB has room.
+MOST = 256 << 20
 # Two buffers for all comparisons: a fresh one for each file would cost more than the reading.
 _BUFFERS = bytearray(CHUNK), bytearray(CHUNK)
 
@@ -26,6 +29,12 @@ def become_nobody(folder):
         os.setgroups([])
         os.setgid(nobody.pw_gid)
         os.setuid(nobody.pw_uid)
+
+
+def bound_files():
+    """A machine of 4,096 MiB that is saved again and again would fill the memory that the files are in. A write past MOST fails, as on a full disk."""
+    signal.signal(signal.SIGXFSZ, signal.SIG_IGN)
+    resource.setrlimit(resource.RLIMIT_FSIZE, (MOST, MOST))
 
 
 class Late(Exception):
