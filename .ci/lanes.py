@@ -9,6 +9,7 @@ import hashlib
 import importlib.machinery
 import importlib.util
 import os
+import pathlib
 import shutil
 import sys
 import types
@@ -45,7 +46,7 @@ def remember(rt):
         files = [*lib.files_of(crate.folder)]
         are = [(it, os.stat(it).st_mtime_ns, os.stat(it).st_size) for it in files]
         if read.get(crate.folder, (None,))[0] != are:
-            texts = [repr((it.replace(crate.folder, ""), open(it, "rb").read())).encode() for it in files]
+            texts = [repr((it.replace(crate.folder, ""), pathlib.Path(it).read_bytes())).encode() for it in files]
             read[crate.folder] = are, texts
         return read[crate.folder][1]
 
@@ -53,7 +54,7 @@ def remember(rt):
         known = {} if known is None else known
         if crate.folder not in known:
             total = hashlib.sha256(repr((crate.said, crate.has_c)).encode())
-            total.update(open(f"{lib.KIT}/WHAT", "rb").read())
+            total.update(pathlib.Path(lib.KIT, "WHAT").read_bytes())
             for part in parts(crate):
                 total.update(part)
             total.update(repr([stamp(dep, known) for dep in crate.deps]).encode())
