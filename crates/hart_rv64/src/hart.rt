@@ -163,7 +163,7 @@ impl Hart {
     }
 
     // Goes on by a reply that fits.
-    #[inline]
+    #[inline(always)]
     fn step(&mut self, reply: HartReply)
         requires { fits (hart_wants self.old) (reply_of reply) ≡ true }
         ensures { self.new ≡ hart_stepped self.old (reply_of reply) }
@@ -189,7 +189,7 @@ impl Hart {
     }
 
     /// The hart goes on by a reply in few bytes, which fits what it wants.
-    #[inline]
+    #[inline(always)]
     pub fn goes_on(&mut self, reply: HartReply)
         requires { fits (hart_wants self.old) (reply_of reply) ≡ true }
         ensures { self.new ≡ hart_next self.old (reply_of reply) }

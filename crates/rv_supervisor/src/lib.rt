@@ -7,6 +7,7 @@
 
 mod csr;
 mod ends;
+mod integers;
 mod regs;
 
 pub use csr::{
@@ -14,4 +15,5 @@ pub use csr::{
     software_set, write_csr,
 };
 pub use ends::{finish, jump, return_from_trap, trap, wait};
+pub use integers::Integers;
 pub use regs::{A0, A1, Regs, Turn, start_regs};

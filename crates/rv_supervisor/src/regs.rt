@@ -3,6 +3,7 @@ ghost use Rattle.std.specs.Prelude.{◌≡◌};
 ghost use Rattle.rv_supervisor.specs.Registers.{reg, with_reg, granule, holds, without_granule};
 ghost use Rattle.rv_supervisor.specs.Start.{start_regs};
 
+use crate::integers::Integers;
 use rv_rows::Register;
 
 /// The register of a call's first argument and of its error (SBI, "Binary Encoding").
@@ -29,8 +30,8 @@ pub enum Turn {
 /// satp read 0, sip and time are the board's.
 #[derive(Clone, Copy, Drop)]
 pub struct Regs {
-    /// x1 to x31.
-    pub x: [u64; 31],
+    /// x0 to x31, which contracts see as x1 to x31.
+    pub x: Integers,
     pub pc: u64,
     /// Bits 1, 5 and 9: whether the software, the timer and the external interrupt is enabled.
     pub sie: u64,
@@ -55,7 +56,7 @@ pub fn start_regs(pc: u64, a0: u64, a1: u64) -> Regs
     ensures { result ≡ start_regs pc a0 a1 }
 {
     let mut regs = Regs {
-        x: [0; 31],
+        x: Integers::zeros(),
         pc,
         sie: 0,
         stvec: 0,
@@ -80,8 +81,7 @@ impl Regs {
     pub fn get(&self, register: Register) -> u64
         ensures { result ≡ reg self.now register }
     {
-        let number = register.number();
-        if number == 0 { 0 } else { self.x[number - 1] }
+        self.x.get(register.number())
     }
 
     /// Puts a value into an integer register. What is written to x0 is dropped.
@@ -89,10 +89,7 @@ impl Regs {
     pub fn put(&mut self, register: Register, value: u64)
         ensures { self.new ≡ with_reg self.old register value }
     {
-        let number = register.number();
-        if number != 0 {
-            self.x[number - 1] = value;
-        }
+        self.x.put(register.number(), value);
     }
 
     /// The granule of this address is held from now on, and no other.

@@ -4,7 +4,7 @@ ghost use Rattle.snap_harts.specs.Harts.{hart, place, place_code};
 ghost use Rattle.snap_harts.specs.Copy.{turn_of, begun_at, regs_of, place_of, saved_hart};
 
 use file_format::{Input, ReadError, Stored};
-use rv_supervisor::{HartCsr, Regs, Turn, csr_value};
+use rv_supervisor::{HartCsr, Integers, Regs, Turn, csr_value};
 use std::alloc::{AllocError, Global};
 
 /// Where a hart is.
@@ -159,7 +159,7 @@ impl SavedHart {
         ensures { result ≡ saved_hart (record { regs = regs.now; begun = begun }) }
     {
         SavedHart {
-            x: regs.x,
+            x: regs.x.values(),
             pc: regs.pc,
             sstatus: csr_value(HartCsr::Sstatus, regs),
             sie: regs.sie,
@@ -180,7 +180,7 @@ impl SavedHart {
         ensures { result ≡ regs_of self.now }
     {
         Regs {
-            x: self.x,
+            x: Integers::from_values(self.x),
             pc: self.pc,
             sie: self.sie,
             stvec: self.stvec,

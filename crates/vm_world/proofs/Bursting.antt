@@ -38,8 +38,9 @@ use Rattle.hart_trace.specs.States.{Hart, fresh, hart_next}
 use Rattle.timer_trace.specs.declared.timer.Timer.{Timer}
 use Rattle.guest_devices.specs.declared.device.Device.{Device}
 use Rattle.vm_world.specs.Answering.{Advances, Goes}
-use Rattle.vm_world.specs.Bursts.{Bursts, EndsSo, GoesOn, Loads, Stores, accesses_in, counted, next_after, total}
+use Rattle.vm_world.specs.Bursts.{Bursts, CountsSo, EndsSo, GoesOn, Loads, Stores, accesses_in, counted, next_after, total}
 use Rattle.vm_world.specs.declared.burst.Ended.{Ended}
+use Rattle.vm_world.specs.declared.burst.Ended.TheVariants.{Accessed, Went}
 use Rattle.vm_world.specs.Worlds.{world_with}
 use Rattle.vm_world.proofs.Events.{HasRun}
 use Rattle.vm_world.proofs.Running.{read_advances, some_more, write_advances}
@@ -144,35 +145,44 @@ counted_placed made pc r more turn =
     left_of (nat_le r.count made) made pc r (over r.count made more)
     ∙ ap (λ (t : TurnType.Turn). placed pc (r.count - made) t r) turn
 
--- what an instruction made at this pc leaves
-pub record Makes (before : PagesValue) (pc : ℕ) (r : Regs) (k : ℕ) (ended : Ended) (after : PagesValue) (s : Regs) : Type 0 where
-  pub goes : EndsSo before.pages pc r (ActorId.Hart k) ended after.pages s
+-- what an instruction made at this pc leaves, with how many accesses were counted before it and after it
+pub record Makes (before : PagesValue) (pc : ℕ) (r : Regs) (k counted now next : ℕ) (after : PagesValue) (s : Regs) : Type 0 where
+  pub goes : CountsSo before.pages pc r (ActorId.Hart k) counted now next after.pages s
   pub kept : s ≡ record r { x = s.x }
   pub count : length after.pages ≡ length before.pages
   pub spends : Spends 1 before after
 
-pub makes_also : (before after later : PagesValue) (pc : ℕ) (r s t : Regs) (k : ℕ) (ended other : Ended) → other ≡ ended → later ≡ after → t ≡ s
-    → Makes before pc r k ended after s → Makes before pc r k other later t
-makes_also before after later pc r s t k ended other is pages regs makes =
-    subst (λ (e : Ended). Makes before pc r k e later t) (sym is)
-    (subst (λ (p : PagesValue). Makes before pc r k ended p t) (sym pages) (subst (Makes before pc r k ended after) (sym regs) makes))
+pub makes_also : (before after later : PagesValue) (pc : ℕ) (r s t : Regs) (k counted now also next other : ℕ) → also ≡ now → other ≡ next
+    → later ≡ after → t ≡ s → Makes before pc r k counted now next after s → Makes before pc r k counted also other later t
+makes_also before after later pc r s t k counted now also next other is to pages regs makes =
+    subst (λ (n : ℕ). Makes before pc r k counted n other later t) (sym is)
+    (subst (λ (n : ℕ). Makes before pc r k counted now n later t) (sym to)
+    (subst (λ (p : PagesValue). Makes before pc r k counted now next p t) (sym pages)
+    (subst (Makes before pc r k counted now next after) (sym regs) makes)))
 
-pub makes_from : (before mid after : PagesValue) (pc : ℕ) (r q s : Regs) (k : ℕ) (ended : Ended) → mid ≡ before → q ≡ r
-    → Makes mid pc q k ended after s → Makes before pc r k ended after s
-makes_from before mid after pc r q s k ended pages regs makes =
-    subst (λ (p : PagesValue). Makes p pc r k ended after s) pages (subst (λ (x : Regs). Makes mid pc x k ended after s) regs makes)
+-- and one that was begun with the same pages, registers and count
+pub makes_from : (before mid after : PagesValue) (pc : ℕ) (r q s : Regs) (k counted from now next : ℕ) → mid ≡ before → q ≡ r → from ≡ counted
+    → Makes mid pc q k from now next after s → Makes before pc r k counted now next after s
+makes_from before mid after pc r q s k counted from now next pages regs is makes =
+    subst (λ (n : ℕ). Makes before pc r k n now next after s) is
+    (subst (λ (p : PagesValue). Makes p pc r k from now next after s) pages (subst (λ (x : Regs). Makes mid pc x k from now next after s) regs makes))
+
+few_in : (ended : Ended) → accesses_in ended ≤ 1
+few_in (Went next) = omega arith
+few_in (Accessed next) = omega arith
+
+pub few_counted : (pages later : List PageValue) (pc : ℕ) (r s : Regs) (actor : ActorId) (before after next : ℕ)
+    → CountsSo pages pc r actor before after next later s → after ≤ before + 1
+few_counted pages later pc r s actor before after next counts = omega (arith, counts.count, few_in counts.ended)
 
 -- one instruction more, which leaves all but the registers' values
-pub burst_goes : (pages mid later : List PageValue) (first : Hart) (actor : ActorId) (done accesses pc : ℕ) (given ended : Ended) (r s : Regs)
-    → given ≡ ended → Bursts pages first actor (done + accesses) mid (fresh (counted done pc r)) → done < r.count → r.turn ≡ Turn.Fetch
-    → s ≡ record r { x = s.x }
-    → ((count : ℕ) (board : Board) (ports : List PortState)
-    → Goes mid board ports (fresh (placed pc count Turn.Fetch r)) actor (1 + accesses_in given) later board ports
-    (fresh (after_jump (next_after given) (placed pc count Turn.Fetch s))))
+burst_goes : (pages mid later : List PageValue) (first : Hart) (actor : ActorId) (done accesses pc : ℕ) (ended : Ended) (r s : Regs)
+    → Bursts pages first actor (done + accesses) mid (fresh (counted done pc r)) → done < r.count → r.turn ≡ Turn.Fetch
+    → s ≡ record r { x = s.x } → EndsSo mid pc r actor ended later s
     → Bursts pages first actor (done + 1 + (accesses + accesses_in ended)) later (fresh (counted (done + 1) (next_after ended) s))
-burst_goes pages mid later first actor done accesses pc given ended r s same gone below turn kept goes =
-    let more : ℕ = accesses_in given in
-    let next : ℕ = next_after given in
+burst_goes pages mid later first actor done accesses pc ended r s gone below turn kept goes =
+    let more : ℕ = accesses_in ended in
+    let next : ℕ = next_after ended in
     let count : s.count ≡ r.count = ap (λ (t : Regs). t.count) kept in
     let fetch : s.turn ≡ Turn.Fetch = ap (λ (t : Regs). t.turn) kept ∙ turn in
     let under : done < s.count = omega (arith, below, count) in
@@ -182,13 +192,22 @@ burst_goes pages mid later first actor done accesses pc given ended r s same gon
     ∙ ap (after_jump next) (sym (counted_placed done pc s under fetch))
     ∙ counted_jump done pc next s under in
     let sum : done + accesses + (1 + more) ≡ done + 1 + (accesses + more) = omega arith in
-    subst (λ (e : Ended). Bursts pages first actor (done + 1 + (accesses + accesses_in e)) later (fresh (counted (done + 1) (next_after e) s))) same
-    (subst (λ (n : ℕ). Bursts pages first actor n later (fresh (counted (done + 1) next s))) sum
+    subst (λ (n : ℕ). Bursts pages first actor n later (fresh (counted (done + 1) next s))) sum
     (burst_more pages mid later first (fresh (counted done pc r)) (fresh (counted (done + 1) next s)) actor (done + accesses) (1 + more) gone
     (λ board ports.
     subst (λ (t : Regs). Goes mid board ports (fresh (counted done pc r)) actor (1 + more) later board ports (fresh t)) to
     (subst (λ (t : Regs). Goes mid board ports (fresh t) actor (1 + more) later board ports (fresh (after_jump next (placed pc (r.count - done) Turn.Fetch s)))) from
-    (goes (r.count - done) board ports)))))
+    (goes (r.count - done) board ports))))
+
+pub burst_counts : (pages mid later : List PageValue) (first : Hart) (actor : ActorId) (done more accesses now pc next : ℕ) (r s : Regs)
+    → done + 1 ≡ more → Bursts pages first actor (done + accesses) mid (fresh (counted done pc r)) → done < r.count → r.turn ≡ Turn.Fetch
+    → s ≡ record r { x = s.x } → CountsSo mid pc r actor accesses now next later s
+    → Bursts pages first actor (more + now) later (fresh (counted more next s))
+burst_counts pages mid later first actor done more accesses now pc next r s is gone below turn kept counts =
+    subst (λ (m : ℕ). Bursts pages first actor (m + now) later (fresh (counted m next s))) is
+    (subst (λ (n : ℕ). Bursts pages first actor (done + 1 + n) later (fresh (counted (done + 1) next s))) (sym counts.count)
+    (subst (λ (p : ℕ). Bursts pages first actor (done + 1 + (accesses + accesses_in counts.ended)) later (fresh (counted (done + 1) p s))) (sym counts.to)
+    (burst_goes pages mid later first actor done accesses pc counts.ended r s gone below turn kept counts.goes)))
 
 high_is : (at : ℕ) → ram_start ≤ at → nat_lt at ram_start ≡ false
 high_is at far = false_from_ne_true (nat_lt at ram_start) (λ is. omega (arith, far, ltb-true at ram_start is))

@@ -61,6 +61,14 @@ EndsSo pages pc r actor ended later s =
     → Goes pages board ports (fresh (placed pc count Turn.Fetch r)) actor (1 + accesses_in ended) later board ports
     (fresh (after_jump (next_after ended) (placed pc count Turn.Fetch s)))
 
+-- the same, with how many accesses were counted before it and after it, and where the next one is
+pub record CountsSo (pages : List PageValue) (pc : ℕ) (r : Regs) (actor : ActorId) (before after next : ℕ) (later : List PageValue) (s : Regs)
+    : Type 0 where
+  pub ended : Ended
+  pub to : next ≡ next_after ended
+  pub count : after ≡ before + accesses_in ended
+  pub goes : EndsSo pages pc r actor ended later s
+
 -- a load of this kind is aligned, and reads this value in RAM
 pub record Loads (pages : List PageValue) (kind : LoadKind) (at value : ℕ) : Type 0 where
   pub aligned : at % load_bytes kind ≡ 0

@@ -8,7 +8,7 @@ ghost use Rattle.hart_trace.specs.States.{fresh};
 ghost use Rattle.rv_rows.specs.Loads.{load_width};
 ghost use Rattle.rv_supervisor.specs.declared.regs.Turn.TheVariants as turn;
 ghost use Rattle.vm_types.specs.declared.ids.ActorId.{ActorId as Actor};
-ghost use Rattle.vm_world.specs.Bursts.{Bursts, EndsSo, HaveWord, Loads, Stores, counted};
+ghost use Rattle.vm_world.specs.Bursts.{Bursts, CountsSo, EndsSo, HaveWord, Loads, Stores, accesses_in, counted, next_after};
 
 mod by_operation;
 
@@ -112,7 +112,8 @@ fn go_on(pages: &mut PageSet, regs: &mut Regs, number: u8, word: u32, pc: u64) -
     }
 }
 
-// The same where the word is kept decoded and frequent, whatever the hart's number is. `None` where it isn't, and then nothing is changed.
+// The same where the word is kept decoded and frequent, whatever the hart's number is, with its access
+// counted. Answers where the next one is; `None` where it isn't so, and then nothing is changed.
 #[inline(always)]
 fn frequent(
     pages: &mut PageSet,
@@ -120,16 +121,19 @@ fn frequent(
     words: &DecodedWords,
     word: u32,
     pc: u64,
-) -> Option<Ended>
+    accesses: &mut u64,
+) -> Option<u64>
     requires ram { ram_start ≤ pc }
     requires read { HaveWord pages.old.pages pc word }
-    ensures goes { IfSome result (λ ended. (k : ℕ) → EndsSo pages.old.pages pc regs.old (Actor.Hart k) ended pages.new.pages regs.new) }
+    requires few { accesses.old + 1 < 2 ^ 64 }
+    ensures goes { IfSome result (λ next. (k : ℕ) →
+        CountsSo pages.old.pages pc regs.old (Actor.Hart k) accesses.old accesses.new next pages.new.pages regs.new) }
     ensures kept { regs.new ≡ record regs.old { x = regs.new.x } }
-    ensures none { result ≡ None → (pages.new ≡ pages.old) × (regs.new ≡ regs.old) }
+    ensures none { result ≡ None → (pages.new ≡ pages.old) × (regs.new ≡ regs.old) × (accesses.new ≡ accesses.old) }
     ensures count { length pages.new.pages ≡ length pages.old.pages }
     ensures spends { Spends 0 pages.old pages.new }
 {
-    go_on_decoded(pages, regs, words.find(pc, word)?, pc)
+    go_on_decoded(pages, regs, words.find(pc, word)?, pc, accesses)
 }
 
 // The same of any word, which is kept decoded from now on.
@@ -155,6 +159,22 @@ fn rare(
         words.keep(pc, word);
     }
     go_on(pages, regs, number, word, pc)
+}
+
+// Where the next instruction is behind one that ended so, with its access counted.
+#[inline(always)]
+fn count(ended: Ended, accesses: &mut u64) -> u64
+    requires { accesses.old + 1 < 2 ^ 64 }
+    ensures next { result ≡ next_after ended }
+    ensures count { accesses.new ≡ accesses.old + accesses_in ended }
+{
+    match ended {
+        Ended::Went(next) => next,
+        Ended::Accessed(next) => {
+            *accesses += 1;
+            next
+        }
+    }
 }
 
 // The word at this pc, by the page that the last one was in where it is there too.
@@ -217,21 +237,14 @@ fn run_in_ram(
         let Some(word) = fetch(pages, &mut code, pc) else {
             break;
         };
-        let ended = match frequent(pages, regs, words, word, pc) {
-            Some(ended) => ended,
+        pc = match frequent(pages, regs, words, word, pc, &mut accesses) {
+            Some(next) => next,
             None => match rare(pages, regs, words, number, word, pc) {
-                Some(ended) => ended,
+                Some(ended) => count(ended, &mut accesses),
                 None => break,
             },
         };
         left -= 1;
-        match ended {
-            Ended::Went(next) => pc = next,
-            Ended::Accessed(next) => {
-                pc = next;
-                accesses += 1;
-            }
-        }
     }
     settle(regs, pc, most - left);
     most - left + accesses
