@@ -30,22 +30,39 @@ const EVENTS_AT_ONCE: u64 = 255;
 /// A turn of one hart has at most so many events, so that it takes less than a millisecond.
 pub const MOST_ALONE: u32 = 49_152;
 
-/// A turn of this hart, of so many events at most, or of one hart after another; and how many were made.
+/// A turn of this hart, of so many events at most, or rounds of such bursts, one of each hart after another; and how many events were
+/// made.
 #[derive(Clone, Copy, Drop)]
 pub struct Turn {
     pub hart: u8,
     pub most: u32,
+    pub rounds: u32,
     pub made: u64,
 }
 
 impl Turn {
     /// None is made yet.
     pub fn new(hart: u8, most: u32) -> Turn
-        ensures { result ≡ record { hart = hart; most = most; made = 0 } }
+        ensures { result ≡ record { hart = hart; most = most; rounds = 1; made = 0 } }
     {
         Turn {
             hart,
             most,
+            rounds: 1,
+            made: 0,
+        }
+    }
+
+    /// A hart makes so many events at most, in bursts of so many. None is made yet.
+    pub fn of_rounds(most: u32, burst: u32) -> Turn
+        ensures burst { (result.most ≤ most) × (result.most ≤ burst) }
+        ensures none { result.made ≡ 0 }
+    {
+        let burst = burst.min(most);
+        Turn {
+            hart: 0,
+            most: burst,
+            rounds: most / burst.max(1),
             made: 0,
         }
     }
